@@ -6,9 +6,7 @@ use row_types::OpenWorld;
 use sha2::{Digest, Sha256};
 use std::alloc::Global;
 use std::process::Abort;
-use tree_trait::{
-    DirAnswer, Entry, EntryKind, Found, LoadAnswer, OpenAnswer, RoomAnswer, StatAnswer, Tree,
-};
+use tree_trait::{Found, LoadAnswer, OpenAnswer, RoomAnswer, Tree};
 
 /// Seeds and numbers, with the size and the SHA-256 of the file that python's hashlib and struct
 /// made of them.
@@ -83,57 +81,6 @@ fn text(rt: &impl Abort, alloc: Global, text: &str) -> String {
     String::from_str(alloc, text).expect(rt, "memory")
 }
 
-/// What a look answers: a file's size and time, or a word.
-fn stat_text(rt: &impl Abort, alloc: Global, answer: StatAnswer) -> String {
-    match answer {
-        StatAnswer::File(stamp) => {
-            format!(in alloc; "{} {} {}", stamp.size, stamp.secs, stamp.nanos).expect(rt, "memory")
-        }
-        StatAnswer::Folder => text(rt, alloc, "folder"),
-        StatAnswer::Gone => text(rt, alloc, "gone"),
-        _ => text(rt, alloc, "other"),
-    }
-}
-
-/// Whether a look at the path in the tree answers so.
-fn looks_as(rt: &impl Abort, alloc: Global, tree: &mut ForgeTree, path: &str, want: &str) -> bool {
-    let answer = tree.stat(alloc, path);
-    stat_text(rt, alloc, answer).as_str() == want
-}
-
-/// Paths in a tree of six files, and what a look answers.
-static LOOKS: [(&str, &str); 14] = [
-    ("", "folder"),
-    ("/", "folder"),
-    ("/t", "folder"),
-    ("/t/f", "folder"),
-    ("/t/f/000000", "1024 0 0"),
-    ("/t/f/000001", "408 0 0"),
-    ("/t/f/000002", "584 0 0"),
-    ("/t/f/000003", "12 0 0"),
-    ("/t/f/000005", "408 0 0"),
-    ("/t/f/000006", "gone"),
-    ("/t/f/00005", "gone"),
-    ("/t/f/ 00005", "gone"),
-    ("/t/g/000005", "gone"),
-    ("/t/f/", "gone"),
-];
-
-#[test]
-fn files_stand_at_their_numbers(rt: HostRuntime) {
-    let alloc = rt.alloc();
-    let mut tree = ForgeTree::new(alloc, 7, 6);
-    for (path, want) in &LOOKS {
-        assert!(rt; looks_as(&rt, alloc, &mut tree, path, want), "{path}");
-    }
-}
-
-#[test]
-fn a_tree_of_no_files_has_no_folder(rt: HostRuntime) {
-    let mut none = ForgeTree::new(rt.alloc(), 7, 0);
-    assert!(rt; none.stat(rt.alloc(), "/") == StatAnswer::Gone);
-}
-
 /// What a load answers: a file's bytes, or a word.
 fn load_text(rt: &impl Abort, alloc: Global, answer: &LoadAnswer<OpenWorld>) -> String {
     match answer {
@@ -177,54 +124,6 @@ fn a_file_is_made_when_it_is_loaded(rt: HostRuntime) {
             loads_as(&rt, alloc, &mut tree, (path, *limit), want),
             "{path}"
         );
-    }
-}
-
-/// The names of a folder's entries, a slash behind those of folders, or a word.
-fn dir_text(rt: &impl Abort, alloc: Global, answer: &DirAnswer) -> String {
-    match answer {
-        DirAnswer::Listed { entries, skipped } => names_text(rt, alloc, entries, *skipped),
-        DirAnswer::Gone => text(rt, alloc, "gone"),
-        _ => text(rt, alloc, "other"),
-    }
-}
-
-/// The names of entries, and whether there were more.
-fn names_text(rt: &impl Abort, alloc: Global, entries: &[Entry], skipped: u64) -> String {
-    let mut text = String::new(alloc);
-    for entry in entries {
-        let is_folder = entry.kind == EntryKind::Folder;
-        text.push_str(entry.name()).expect(rt, "memory");
-        text.push_str(if is_folder { "/ " } else { " " })
-            .expect(rt, "memory");
-    }
-    if skipped > 0 {
-        text.push_str("and more").expect(rt, "memory");
-    }
-    text
-}
-
-/// Whether the folder of the tree has these entries.
-fn lists_as(rt: &impl Abort, alloc: Global, tree: &mut ForgeTree, path: &str, want: &str) -> bool {
-    let answer = tree.read_dir(alloc, path);
-    dir_text(rt, alloc, &answer).as_str() == want
-}
-
-/// Folders of a tree of six files, and their entries.
-static FOLDERS: [(&str, &str); 5] = [
-    ("/", "t/ "),
-    ("/t", "f/ "),
-    ("/t/f", "000000 000001 000002 000003 000004 000005 "),
-    ("/t/f/000000", "gone"),
-    ("/f", "gone"),
-];
-
-#[test]
-fn folders_have_their_entries(rt: HostRuntime) {
-    let alloc = rt.alloc();
-    let mut tree = ForgeTree::new(alloc, 7, 6);
-    for (path, want) in &FOLDERS {
-        assert!(rt; lists_as(&rt, alloc, &mut tree, path, want), "{path}");
     }
 }
 

@@ -9,8 +9,6 @@ mod checked_pictures;
 #[cfg(test)]
 mod cursors;
 #[cfg(test)]
-mod differences;
-#[cfg(test)]
 mod forging;
 #[cfg(test)]
 mod identities;

@@ -13,23 +13,18 @@ static EXAMPLE: [u8; 29] = [
 ];
 
 /// What Python's `struct` packs, by the format's table, of `/b`, 258 bytes, changed 3 nanoseconds
-/// after the second before 1970, with code and debug information, the id `abcd` and the source
-/// `/s`.
-static WITH_IDENTITY: [u8; 42] = [
+/// after the second before 1970, with code and debug information, the id `abcd` and the sources `/s`
+/// and `/t`.
+static WITH_IDENTITY: [u8; 48] = [
     1, 2, 0, 0, 0, 0x2f, 0x62, 2, 1, 0, 0, 0, 0, 0, 0, 0xff, 0xff, 0xff, 0xff, 0xff, 0xff, 0xff,
-    0xff, 3, 0, 0, 0, 1, 3, 2, 0xab, 0xcd, 1, 0, 0, 0, 2, 0, 0, 0, 0x2f, 0x73,
+    0xff, 3, 0, 0, 0, 1, 3, 2, 0xab, 0xcd, 2, 0, 0, 0, 2, 0, 0, 0, 0x2f, 0x73, 2, 0, 0, 0, 0x2f,
+    0x74,
 ];
 
 /// The row bytes of `/a`, empty, changed at second 100, which has no identity for this reason.
 fn plain_bytes(rt: &impl Abort, alloc: Global, why: Why) -> Vec<u8> {
     let row = row(alloc, "/a", 0, Reading::Plain(why)).expect(rt, "a row");
     write_row(alloc, row.row()).expect(rt, "memory")
-}
-
-#[test]
-fn a_small_row_has_the_bytes_of_the_format(rt: HostRuntime) {
-    let bytes = plain_bytes(&rt, rt.alloc(), Why::NotElf);
-    assert!(rt; bytes.as_slice() == EXAMPLE.as_slice());
 }
 
 /// The numbers of the reasons, which are those of the format's table.
@@ -42,10 +37,13 @@ static REASONS: [(Why, u8); 6] = [
     (Why::TooLarge, 6),
 ];
 
+// The first is the example.
 #[test]
-fn a_reason_is_spelled_by_its_number(rt: HostRuntime) {
+fn a_small_row_has_the_bytes_of_the_format_and_the_number_of_its_reason(rt: HostRuntime) {
     for (why, number) in &REASONS {
         let bytes = plain_bytes(&rt, rt.alloc(), *why);
+        assert!(rt; bytes.len() == 29, "{number}");
+        assert!(rt; bytes.as_slice().starts_with(&EXAMPLE[..28]), "{number}");
         assert!(rt; bytes.as_slice().last() == Some(number), "{number}");
     }
 }
@@ -56,7 +54,7 @@ fn with_identity(rt: &impl Abort, alloc: Global) -> Row {
         path: path(alloc, "/b").expect(rt, "a path"),
         stamp: Stamp::new(258, -1, 3).expect(rt, "a stamp"),
     };
-    let reading = elf(alloc, &[0xab, 0xcd], true, true, &["/s"]).expect(rt, "a reading");
+    let reading = elf(alloc, &[0xab, 0xcd], true, true, &["/s", "/t"]).expect(rt, "a reading");
     Row::new(name, EDITION, reading)
 }
 
@@ -86,15 +84,6 @@ fn what_was_written_is_read(rt: HostRuntime) {
     }
 }
 
-#[test]
-fn the_example_is_read_part_for_part(rt: HostRuntime) {
-    let stamp = Stamp::new(0, 100, 0).expect(&rt, "a stamp");
-    let row = row_of(&rt, rt.alloc(), EXAMPLE.as_slice());
-    assert!(rt; row.name.path.text() == "/a");
-    assert!(rt; row.name.stamp == stamp);
-    assert!(rt; matches!(&row.reading, Reading::Plain(Why::NotElf)));
-}
-
 /// The bytes with another byte at a place, or with that byte behind them.
 fn changed(rt: &impl Abort, alloc: Global, bytes: &[u8], at: usize, byte: u8) -> Vec<u8> {
     let mut changed = Vec::from_slice(alloc, bytes).expect(rt, "memory");
@@ -106,32 +95,14 @@ fn changed(rt: &impl Abort, alloc: Global, bytes: &[u8], at: usize, byte: u8) ->
     changed
 }
 
-#[test]
-fn each_edition_is_read(rt: HostRuntime) {
-    for edition in [1, 2, 255] {
-        let bytes = changed(&rt, rt.alloc(), EXAMPLE.as_slice(), 0, edition);
-        let row = row_of(&rt, rt.alloc(), bytes.as_slice());
-        assert!(rt; row.edition == edition);
-    }
-}
-
-#[test]
-fn a_row_that_is_cut_is_short(rt: HostRuntime) {
-    for bytes in [EXAMPLE.as_slice(), WITH_IDENTITY.as_slice()] {
-        for end in 0..bytes.len() {
-            let fault = read_row(rt.alloc(), &bytes[..end]).err();
-            assert!(rt; fault == Some(CodecFault::Short), "{end}");
-        }
-    }
-}
-
 /// A change of row bytes: the place, the byte that stands there instead, and the fault of the
 /// changed bytes.
 type Damage = (usize, u8, CodecFault);
 
 // Places in both: 0 the edition, 1 the path's length, 5 the path, 23 the nanoseconds, 27 the tag; in
-// the first 28 the reason; in the second 28 the flags, 29 the id's length, 36 the source's length
-// and 40 the source.
+// the first 28 the reason; in the second 28 the flags, 29 the id's length, 36 the first source's
+// length and 40 that source, 46 the second one. Each source stands behind the one before it, and a
+// text that is none is told first.
 
 /// Changes of `EXAMPLE`.
 static IN_EXAMPLE: [Damage; 11] = [
@@ -149,7 +120,7 @@ static IN_EXAMPLE: [Damage; 11] = [
 ];
 
 /// Changes of `WITH_IDENTITY`.
-static IN_IDENTITY: [Damage; 8] = [
+static IN_IDENTITY: [Damage; 11] = [
     (28, 4, CodecFault::BadTag),
     (29, 1, CodecFault::BadTag),
     (29, 65, CodecFault::BadTag),
@@ -157,7 +128,10 @@ static IN_IDENTITY: [Damage; 8] = [
     (37, 1, CodecFault::Short),
     (40, 0x78, CodecFault::BadText),
     (41, 0xff, CodecFault::BadText),
-    (42, 0, CodecFault::Trailing),
+    (41, 0x74, CodecFault::BadOrder),
+    (46, 0x2e, CodecFault::BadText),
+    (47, 0x72, CodecFault::BadOrder),
+    (48, 0, CodecFault::Trailing),
 ];
 
 /// Makes each change alone, and compares the fault.
@@ -171,6 +145,8 @@ fn compare(rt: &impl Abort, alloc: Global, bytes: &[u8], changes: &[Damage]) {
 
 #[test]
 fn each_part_has_its_fault(rt: HostRuntime) {
+    let cut = read_row(rt.alloc(), &EXAMPLE[..28]).err();
+    assert!(rt; cut == Some(CodecFault::Short));
     compare(&rt, rt.alloc(), EXAMPLE.as_slice(), IN_EXAMPLE.as_slice());
     compare(
         &rt,
@@ -178,32 +154,4 @@ fn each_part_has_its_fault(rt: HostRuntime) {
         WITH_IDENTITY.as_slice(),
         IN_IDENTITY.as_slice(),
     );
-}
-
-// Behind `/s` stands a second source; one that is no path and not behind `/s` is a bad text.
-#[test]
-fn sources_stand_in_order(rt: HostRuntime) {
-    for (first, second, fault) in [
-        (0x2f, 0x74, None),
-        (0x2f, 0x73, Some(CodecFault::BadOrder)),
-        (0x2f, 0x61, Some(CodecFault::BadOrder)),
-        (0x2e, 0x61, Some(CodecFault::BadText)),
-    ] {
-        let mut bytes = changed(&rt, rt.alloc(), WITH_IDENTITY.as_slice(), 32, 2);
-        let source = [2, 0, 0, 0, first, second];
-        bytes
-            .extend_from_slice(source.as_slice())
-            .expect(&rt, "memory");
-        let found = read_row(rt.alloc(), bytes.as_slice()).err();
-        assert!(rt; found == fault, "{second}");
-    }
-}
-
-// The edition is no number of the format, and a byte follows the row.
-#[test]
-fn the_first_fault_is_answered(rt: HostRuntime) {
-    let longer = changed(&rt, rt.alloc(), EXAMPLE.as_slice(), 29, 0);
-    let bytes = changed(&rt, rt.alloc(), longer.as_slice(), 0, 0);
-    let found = read_row(rt.alloc(), bytes.as_slice()).err();
-    assert!(rt; found == Some(CodecFault::BadTag));
 }

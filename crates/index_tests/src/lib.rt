@@ -12,13 +12,7 @@ mod locks;
 #[cfg(test)]
 mod look_ups;
 #[cfg(test)]
-mod plain_rows;
-#[cfg(test)]
 mod queues;
-#[cfg(test)]
-mod same_rows;
-#[cfg(test)]
-mod samples;
 #[cfg(test)]
 mod states;
 #[cfg(test)]

@@ -1,5 +1,6 @@
-//! The tests of the crates that ask other servers: responses as they come, and questions over a dial in
-//! memory. They use what is public alone, and no code stands on them.
+//! The tests of the crates that ask other servers, and of the words that name these: responses as they
+//! come, questions over a dial in memory, and command lines. They use what is public alone, and no code
+//! stands on them.
 #![tactic(auto)]
 
 #[cfg(test)]
@@ -7,4 +8,8 @@ mod addresses;
 #[cfg(test)]
 mod asked;
 #[cfg(test)]
+mod order;
+#[cfg(test)]
 mod responses;
+#[cfg(test)]
+mod words;

@@ -56,10 +56,3 @@ fn places_go_out_with_a_token_each_and_come_back_in_order(rt: HostRuntime) {
     assert!(rt; places.as_slice() == [3, 1, 4, 1, 5].as_slice());
     assert!(rt; count == 5);
 }
-
-#[test]
-fn no_place_is_no_slot(rt: HostRuntime) {
-    let (places, count) = out_and_back(&rt, rt.alloc(), &[]);
-    assert!(rt; places.is_empty());
-    assert!(rt; count == 0);
-}

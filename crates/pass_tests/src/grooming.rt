@@ -3,4 +3,3 @@
 mod cases;
 mod helpers;
 mod orders;
-mod told;

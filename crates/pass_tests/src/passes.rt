@@ -3,7 +3,6 @@
 mod beside;
 mod cases;
 mod ends;
-mod events;
 mod missed;
 mod passes;
 mod shared;

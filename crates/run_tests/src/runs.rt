@@ -1,8 +1,13 @@
 //! What no clause says: that memory suffices, and that the definitions mean what the program's
 //! words and texts say. The expected texts are those of the words' description.
 
+mod bare;
+mod between;
 mod crowded;
+mod damaged;
 mod ends;
+mod failing_hands;
+mod failing_stores;
 mod files;
 mod hands;
 mod queries;
@@ -15,7 +20,6 @@ mod serves_asked;
 mod serves_counters;
 mod serves_doors;
 mod serves_gates;
-mod serves_hands;
 mod serves_replies;
 mod serves_rig;
 mod serves_stops;

@@ -1,1 +1,2 @@
+pub mod DoorSends
 pub mod StoppingLemmas

@@ -1,17 +1,15 @@
-//! Lists of events of an index over a database in memory, which tells its tables: one that doesn't
-//! stop, and one that stops at a call, after which the store is opened again.
+//! Lists of events of an index over a database in memory, which tells its tables.
 
 mod steps;
 
 ghost use Rattle.std.specs.Prelude.{true, IsTrue};
 ghost use Rattle.index_events.specs.Puts.{EndLasts};
 
-use crate::events::steps::{SECOND_PASS, Step, TWO_PASSES, answers_text, events_of, wanted_text};
+use crate::events::steps::{ANSWERS, SECOND_PASS, Step, TWO_PASSES, answers_text, events_of};
 use crate::rig::{after, kept_paths, number};
-use crate::stopping::StoppingStore;
 use index_events::{Event, EventsEnd, run_events};
 use index_keeper::Store;
-use index_state::{OpenFault, State};
+use index_state::State;
 use row_types::OpenWorld;
 use sample_index::opened;
 use sample_rows::rows_text;
@@ -87,83 +85,29 @@ fn open_and_run<S: Store<OpenWorld>>(
     run(rt, alloc, store, index, events)
 }
 
-/// A call at which the store stops, the event that makes it, and what the next opening finds.
-struct Stop {
-    /// The number of the call.
-    call: u64,
-    /// The number of the event.
-    event: usize,
-    /// The rows, as `/a 1, /b 2, `.
-    rows: &'static str,
-    /// The paths that the tables keep, each with a space behind it.
-    paths: &'static str,
-}
-
-/// None of the calls.
-static NO_STOP: Stop = Stop {
-    call: 8,
-    event: 7,
-    rows: "/a 3, ",
-    paths: "/a ",
-};
-
-/// Each change that the two passes make.
-static STOPS: &[Stop] = &[
-    Stop {
-        call: 2,
-        event: 1,
-        rows: "",
-        paths: "",
-    },
-    Stop {
-        call: 3,
-        event: 2,
-        rows: "/a 1, ",
-        paths: "/a ",
-    },
-    Stop {
-        call: 4,
-        event: 4,
-        rows: "/a 1, /b 2, ",
-        paths: "/a /b ",
-    },
-    Stop {
-        call: 5,
-        event: 5,
-        rows: "/a 3, /b 2, ",
-        paths: "/a /b ",
-    },
-];
-
-/// Makes both passes over a store that stops so, and compares what was answered and what is left.
-fn pass_twice<S: Store<OpenWorld>>(rt: &impl Abort, alloc: Global, store: &mut S, stop: &Stop)
+/// Makes the steps on an index of the store, and compares what is left. What was answered, each with
+/// a line feed behind it.
+fn pass<S: Store<OpenWorld>>(
+    rt: &impl Abort,
+    alloc: Global,
+    store: &mut S,
+    steps: &[Step],
+) -> String
     requires { IsTrue S.K.told }
 {
-    let (said, rows) = open_and_run(rt, alloc, store, TWO_PASSES.as_slice());
-    assert!(rt;
-        said.as_str() == wanted_text(rt, alloc, stop.event).as_str(),
-        "{said}"
-    );
-    assert!(rt; rows.as_str() == stop.rows, "{rows}");
-    let paths = kept_paths(rt, alloc, store);
-    assert!(rt; paths.as_str() == stop.paths, "{paths}");
-}
-
-/// Makes the second pass on what a store holds. Index and tables have what its listing has.
-fn pass_again<S: Store<OpenWorld>>(rt: &impl Abort, alloc: Global, store: &mut S)
-    requires { IsTrue S.K.told }
-{
-    let (_said, rows) = open_and_run(rt, alloc, store, SECOND_PASS.as_slice());
+    let (said, rows) = open_and_run(rt, alloc, store, steps);
     assert!(rt; rows.as_str() == "/a 3, ", "{rows}");
     let paths = kept_paths(rt, alloc, store);
     assert!(rt; paths.as_str() == "/a ", "{paths}");
+    said
 }
 
 /// The connection of a store over which both passes were made.
 fn passed_over(rt: &impl Abort, alloc: Global) -> Connection<MemStore> {
     let mut store = HeldStore::new(after(rt, alloc, ""));
-    pass_twice(rt, alloc, &mut store, &NO_STOP);
-    pass_again(rt, alloc, &mut store);
+    let said = pass(rt, alloc, &mut store, &TWO_PASSES);
+    assert!(rt; said.as_str() == ANSWERS, "{said}");
+    let _again = pass(rt, alloc, &mut store, &SECOND_PASS);
     store.into_connection().expect(rt, "a connection")
 }
 
@@ -179,35 +123,4 @@ fn events_change_the_tables_of_a_database_in_memory(rt: HostRuntime) {
     assert!(rt; number(&rt, &mut connection, rows) == 1, "other rows");
     let openings = "SELECT n FROM epoch";
     assert!(rt; number(&rt, &mut connection, openings) == 5, "openings");
-}
-
-/// A store of an empty database, which stops at the call of this number.
-fn stopping_at(rt: &impl Abort, alloc: Global, call: u64) -> StoppingStore {
-    StoppingStore::new(after(rt, alloc, ""), call)
-}
-
-#[test]
-fn a_stop_at_any_change_leaves_those_before_it(rt: HostRuntime) {
-    let alloc = rt.alloc();
-    for stop in STOPS {
-        let mut store = stopping_at(&rt, alloc, stop.call);
-        pass_twice(&rt, alloc, &mut store, stop);
-        pass_again(&rt, alloc, &mut store);
-    }
-}
-
-/// Whether no index opens, since its keeper or its store failed.
-fn is_shut<S: Store<OpenWorld>>(alloc: Global, store: &mut S) -> bool {
-    matches!(opened(alloc, store).err(), Some(OpenFault::KeeperFault))
-}
-
-// The first call is the opening of the store, and the second the reading of its rows.
-#[test]
-fn an_index_opens_after_a_stop_at_its_opening(rt: HostRuntime) {
-    let alloc = rt.alloc();
-    for call in [0, 1] {
-        let mut store = stopping_at(&rt, alloc, call);
-        assert!(rt; is_shut(alloc, &mut store), "{call}");
-        pass_again(&rt, alloc, &mut store);
-    }
 }

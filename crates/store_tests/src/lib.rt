@@ -6,6 +6,8 @@ mod events;
 #[cfg(test)]
 mod rig;
 #[cfg(test)]
+mod scans;
+#[cfg(test)]
 mod stopping;
 #[cfg(test)]
 mod stops;

@@ -1,54 +1,12 @@
 //! Scans into a database in memory, which tells its tables and stops at one of its calls.
 
 use crate::rig::{after, kept_paths};
+use crate::scans::{Around, around, compare, goes_on};
 use crate::stopping::StoppingStore;
-use dbgd_run::{MemSink, Outside, Sink, needs, run};
-use federation::MemLink;
-use http_wire::MemDoor;
-use row_types::OpenWorld;
-use sample_world::open_script;
 use std::alloc::Global;
-use std::marker::PhantomData;
 use std::process::Abort;
 use std::sync::Wait;
 use std::thread::Threads;
-use tree_trait::{MemClock, MemTree, NoGate};
-
-/// The objects of a run.
-type Memory = Outside<
-    OpenWorld,
-    MemTree<OpenWorld>,
-    StoppingStore,
-    MemDoor,
-    MemLink,
-    MemClock,
-    MemSink,
-    NoGate,
->;
-
-/// A scan of three debug files and two sources.
-static SCAN: [&str; 5] = ["scan", "-d", "m", "/srv/debug", "/w/src"];
-
-/// The words as the program gets them.
-fn scan_words(rt: &impl Abort, alloc: Global) -> Vec<String> {
-    let mut words = Vec::new(alloc);
-    for word in &SCAN {
-        let word = String::from_str(alloc, word).expect(rt, "memory");
-        words.push(word).expect(rt, "memory");
-    }
-    words
-}
-
-/// An empty sink.
-fn sink(alloc: Global) -> MemSink {
-    MemSink::new(alloc, Vec::new(alloc))
-}
-
-/// The one hand.
-fn hands(rt: &impl Abort, alloc: Global) -> Vec<MemTree<OpenWorld>> {
-    let script = open_script(alloc).expect(rt, "memory");
-    vec![in alloc; MemTree::new(alloc, script)].expect(rt, "memory")
-}
 
 /// The store of a database that these statements made, which stops at the call of this number.
 fn store(rt: &impl Abort, alloc: Global, sql: &str, stop_at: u64) -> StoppingStore {
@@ -56,70 +14,8 @@ fn store(rt: &impl Abort, alloc: Global, sql: &str, stop_at: u64) -> StoppingSto
 }
 
 /// What is around such a store.
-fn stopping_at(rt: &impl Abort, alloc: Global, sql: &str, stop_at: u64) -> Memory {
-    Outside {
-        hands: hands(rt, alloc),
-        store: store(rt, alloc, sql, stop_at),
-        out: sink(alloc),
-        err: sink(alloc),
-        doors: Vec::new(alloc),
-        links: Vec::new(alloc),
-        clock: MemClock::new(alloc, 0),
-        gate: NoGate,
-        of: PhantomData::<OpenWorld>,
-    }
-}
-
-/// Scans into empty sinks, and gives the status.
-fn scan<Rt: Threads + Wait + Sync + Abort>(rt: &Rt, alloc: Global, outside: &mut Memory) -> u8 {
-    assert!(rt; !outside.hands.is_empty(), "a hand");
-    let words = scan_words(rt, alloc);
-    let needs = needs(alloc, words.as_slice()).expect(rt, "memory");
-    assert!(rt; needs.doors == 0, "a server");
-    outside.out = sink(alloc);
-    outside.err = sink(alloc);
-    run(rt, alloc, words.as_slice(), outside)
-}
-
-/// Scans, and compares what is said and the status.
-fn compare<Rt: Threads + Wait + Sync + Abort>(
-    rt: &Rt,
-    alloc: Global,
-    outside: &mut Memory,
-    out: &str,
-    err: &str,
-    status: u8,
-) {
-    let ended = scan(rt, alloc, outside);
-    assert!(rt;
-        outside.err.written().expect(rt, "told") == err.as_bytes(),
-        "{err}"
-    );
-    assert!(rt;
-        outside.out.written().expect(rt, "told") == out.as_bytes(),
-        "{out}"
-    );
-    assert!(rt; ended == status, "{ended}");
-}
-
-/// The line of a scan that found so many rows kept.
-fn line(rt: &impl Abort, alloc: Global, kept: u64) -> String {
-    let added = 5_u64.saturating_sub(kept);
-    format!(in alloc;
-        "scan: 5 files, {added} added, 0 replaced, 0 dropped, {kept} kept, \
-            0 executables, 2 debuginfo\n"
-    )
-    .expect(rt, "memory")
-}
-
-/// A scan that goes on from so many rows.
-fn goes_on<Rt: Threads + Wait + Sync + Abort>(
-    rt: &Rt,
-    alloc: Global,
-    outside: &mut Memory,
-    kept: u64,
-) {
-    compare(rt, alloc, outside, line(rt, alloc, kept).as_str(), "", 0);
+fn stopping_at(rt: &impl Abort, alloc: Global, sql: &str, stop_at: u64) -> Around<StoppingStore> {
+    around(rt, alloc, store(rt, alloc, sql, stop_at))
 }
 
 /// Two rows of edition 2, which isn't this program's.
@@ -162,7 +58,7 @@ fn left(rt: &impl Abort, alloc: Global, made: usize) -> String {
 fn stops_and_goes_on<Rt: Threads + Wait + Sync + Abort>(
     rt: &Rt,
     alloc: Global,
-    outside: &mut Memory,
+    outside: &mut Around<StoppingStore>,
     made: usize,
 ) {
     compare(rt, alloc, outside, "", "dbgd: fault store\n", 1);

@@ -2,6 +2,6 @@
 
 mod file;
 mod left;
-mod openings;
 mod refusals;
 mod rows;
+mod second;

@@ -4,8 +4,6 @@
 #[cfg(test)]
 mod fills;
 #[cfg(test)]
-mod swaps;
-#[cfg(test)]
 mod trees;
 #[cfg(test)]
 mod walks;

@@ -71,33 +71,6 @@ fn a_script_is_answered_call_by_call(rt: HostRuntime) {
     }
 }
 
-/// What an opening of `/w/a` answers, in a word.
-fn open_word(alloc: Global, tree: &mut MemTree<TwoWorld>, limit: u64) -> &'static str {
-    match tree.open_file(alloc, "/w/a", limit) {
-        OpenAnswer::Opened { stamp, .. } if stamp.size == 2 => "opened",
-        OpenAnswer::Opened { .. } => "other",
-        OpenAnswer::TooLarge { .. } => "too large",
-        OpenAnswer::Gone => "gone",
-        OpenAnswer::Failed => "failed",
-        OpenAnswer::OutOfMemory => "out of memory",
-    }
-}
-
-/// The limits of the calls of an opening, and what they answer.
-static OPENINGS: [(u64, &str); 4] = [(2, "opened"), (1, "too large"), (2, "failed"), (2, "gone")];
-
-#[test]
-fn a_script_answers_openings_as_loads(rt: HostRuntime) {
-    let alloc = rt.alloc();
-    let mut tree = changing_tree(&rt, alloc);
-    for (limit, word) in &OPENINGS {
-        assert!(rt;
-            open_word(alloc, &mut tree, *limit) == *word,
-            "{limit} {word}"
-        );
-    }
-}
-
 /// What a read of one byte of an open file answers, in a word.
 fn byte_word(tree: &mut MemTree<TwoWorld>, file: &mut Found<TwoWorld>, at: u64) -> &'static str {
     let mut room = [0];

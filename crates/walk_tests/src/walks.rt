@@ -7,12 +7,9 @@ ghost use Rattle.tree_trait.specs.Present.{are_distinct};
 ghost use Rattle.tree_trait.specs.Script.{is_stage};
 
 use row_types::{CanonPath, OpenWorld, Stamp};
-use std::alloc::{AllocError, Global};
+use std::alloc::Global;
 use std::process::Abort;
-use tree_trait::{
-    DirAnswer, Entry, EntryKind, Found, LoadAnswer, MemTree, OpenAnswer, RoomAnswer, Script,
-    StatAnswer, Tree,
-};
+use tree_trait::{Found, MemTree, Script, Tree};
 use tree_walk::{Walk, WalkFault, walk};
 
 /// An empty file.
@@ -170,66 +167,4 @@ fn a_walk_lists_the_files_under_its_roots_by_path(rt: HostRuntime) {
         let mut tree = three_folders(&rt, alloc, *bad_call);
         finds(&rt, alloc, &mut tree, roots, want);
     }
-}
-
-/// A tree in which each path is a folder with one file of a name of 4096 bytes, and no path is a
-/// file.
-#[derive(Drop)]
-struct LongNames;
-
-/// The entry of a folder of such a tree.
-fn long_entry(alloc: Global) -> Result<Vec<Entry>, AllocError> {
-    let mut name = String::new(alloc);
-    for _ in 0..4096 {
-        name.push('a')?;
-    }
-    let mut entries = Vec::new(alloc);
-    if let Ok(entry) = Entry::check(name, EntryKind::File) {
-        entries.push(entry)?;
-    }
-    Ok(entries)
-}
-
-impl Tree<OpenWorld> for LongNames {
-    ghost use Rattle.std.specs.Prelude.{false, [], None, pos};
-
-    type File = ();
-
-    ghost told = { false };
-
-    ghost shows = { λ _. record { present = []; Still = ⊥; heard = None; faults = 0 } };
-
-    ghost opened = { λ _. record { path = []; stamp = record { size = 1; secs = pos 0; nanos = 0 } } };
-
-    fn load(&mut self, _alloc: Global, _path: &str, _limit: u64) -> LoadAnswer<OpenWorld> {
-        LoadAnswer::Gone
-    }
-
-    fn stat(&mut self, _alloc: Global, _path: &str) -> StatAnswer {
-        StatAnswer::Folder
-    }
-
-    fn read_dir(&mut self, alloc: Global, _path: &str) -> DirAnswer {
-        match long_entry(alloc) {
-            Ok(entries) => DirAnswer::Listed {
-                entries,
-                skipped: 2,
-            },
-            Err(_) => DirAnswer::OutOfMemory,
-        }
-    }
-
-    fn open_file(&mut self, _alloc: Global, _path: &str, _limit: u64) -> OpenAnswer<()> {
-        OpenAnswer::Gone
-    }
-
-    // No file is opened here. A read leaves the room as it is, which a world that isn't told allows.
-    fn read_at(&mut self, _file: &mut (), _at: u64, _room: &mut [u8]) -> RoomAnswer {
-        RoomAnswer::Filled
-    }
-}
-
-#[test]
-fn a_path_that_is_too_long_is_passed_over(rt: HostRuntime) {
-    finds(&rt, rt.alloc(), &mut LongNames, &["/srv"], "3");
 }

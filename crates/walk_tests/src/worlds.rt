@@ -2,10 +2,10 @@
 
 use row_types::Stamp;
 use sample_files::{ID_A, ID_B, ID_BIG, ID_C};
-use sample_world::{REFERENCE_TREE, Sample, SampleWorld, changed_file_script, reference_script};
+use sample_world::{REFERENCE_TREE, Sample, SampleWorld, reference_script};
 use std::alloc::Global;
 use std::process::Abort;
-use tree_trait::{DirAnswer, LoadAnswer, MemTree, StatAnswer, Tree};
+use tree_trait::{LoadAnswer, MemTree, StatAnswer, Tree};
 
 /// A path of the reference tree and the number of its file's bytes.
 type Size = (&'static str, u64);
@@ -100,24 +100,4 @@ fn each_elf_file_has_its_id(rt: HostRuntime) {
         let descriptor = note.get(16..).expect(&rt, "a descriptor");
         assert!(rt; descriptor.starts_with(id), "id of {sample:?}");
     }
-}
-
-#[test]
-fn a_listed_call_fails(rt: HostRuntime) {
-    let alloc = rt.alloc();
-    let mut tree = reference_tree(&rt, alloc, &[1]);
-    assert!(rt; matches!(&tree.stat(alloc, "/w/src"), StatAnswer::Folder));
-    assert!(rt; matches!(&tree.read_dir(alloc, "/w/src"), DirAnswer::Failed));
-    assert!(rt; matches!(&tree.read_dir(alloc, "/w"), DirAnswer::Listed { .. }));
-}
-
-#[test]
-fn the_file_changes_before_the_call(rt: HostRuntime) {
-    let alloc = rt.alloc();
-    let script = changed_file_script(alloc, 1).expect(&rt, "memory");
-    let mut tree = MemTree::new(alloc, script);
-    assert!(rt; finds(alloc, &mut tree, "/srv/a", 7, b"hello\n"));
-    let stamp = stamp_at(alloc, &mut tree, "/srv/a").expect(&rt, "a file");
-    assert!(rt; stamp.size == 7);
-    assert!(rt; stamp.secs == 101);
 }

@@ -1,8 +1,10 @@
 //! What no clause says: that memory suffices, and the whole bytes of replies.
 
 mod changed;
-mod cut;
+mod cut_heads;
+mod cut_responses;
 mod edges;
+mod failing;
 mod gates;
 pub mod helpers;
 mod metrics;
@@ -10,4 +12,3 @@ mod open;
 mod pieces;
 mod replies;
 pub mod texts;
-mod upstream;

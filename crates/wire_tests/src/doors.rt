@@ -5,7 +5,7 @@ use crate::connections::helpers::{conn, serve_at, whole};
 use crate::connections::texts::{no_routes, text_head};
 use crate::counters::shares::one_drawn;
 use conn_server::DoorEnd;
-use http_wire::{Door, DoorAnswer, DoorSaid, MemConn, MemDoor};
+use http_wire::{Door, DoorSaid, MemConn, MemDoor};
 use std::alloc::Global;
 use std::process::Abort;
 use std::sync::Wait;
@@ -70,6 +70,15 @@ fn are_served(rt: &impl Abort, alloc: Global, door: &MemDoor) {
     is_written(rt, ended, 2, last.as_bytes());
 }
 
+/// The calls of the door are told: each connection was handed back before the next one came.
+fn are_one_by_one(rt: &impl Abort, door: &MemDoor) {
+    let calls = door.calls().expect(rt, "memory suffices for each call");
+    assert!(rt; calls.len() == 6, "{}", calls.len());
+    for (place, call) in calls.iter().enumerate() {
+        assert!(rt; call.is_arrival() == (place % 2 == 0), "{place}");
+    }
+}
+
 #[test]
 fn connections_are_served_and_handed_back_in_order(rt: HostRuntime) {
     let alloc = rt.alloc();
@@ -78,49 +87,7 @@ fn connections_are_served_and_handed_back_in_order(rt: HostRuntime) {
     assert!(rt; end == DoorEnd::Closed);
     assert!(rt; door.last() == Some(DoorSaid::Closed));
     are_served(&rt, alloc, &door);
-}
-
-#[test]
-fn a_door_without_connections_closes(rt: HostRuntime) {
-    let alloc = rt.alloc();
-    let mut door = door(&rt, alloc, &[]);
-    let end = serve(&rt, alloc, &mut door, 0, 1, &NoGate);
-    assert!(rt; end == DoorEnd::Closed);
-    assert!(rt; door.ended_conns().is_some_and(|ended| ended.is_empty()));
-}
-
-/// A door that fails at each accept.
-#[derive(Drop)]
-struct Failing {
-    last: Option<DoorSaid>,
-    faults: u64,
-}
-
-impl Door for Failing {
-    ghost use Rattle.std.specs.Prelude.{None};
-
-    type Conn = MemConn;
-
-    ghost shows = { λ d. record { last = d.last; came = None; ended = None; faults = d.faults } };
-
-    fn accept<Rt: Wait + Sync>(&mut self, _rt: &Rt) -> DoorAnswer<MemConn> {
-        self.last = Some(DoorSaid::Failed);
-        self.faults = self.faults.saturating_add(1);
-        DoorAnswer::Failed
-    }
-
-    fn ended(&mut self, _conn: MemConn) {}
-}
-
-#[test]
-fn a_door_that_fails_ends_the_serving(rt: HostRuntime) {
-    let mut door = Failing {
-        last: None,
-        faults: 0,
-    };
-    let end = serve(&rt, rt.alloc(), &mut door, 0, 1, &NoGate);
-    assert!(rt; end == DoorEnd::Failed);
-    assert!(rt; door.faults == 1, "{}", door.faults);
+    are_one_by_one(&rt, &door);
 }
 
 /// Holds nobody, and notes whether each reply has the number that is wanted next.

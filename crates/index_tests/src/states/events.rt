@@ -1,17 +1,26 @@
 //! Lists of events, most of them in the told world of one path with two versions.
 
-use crate::states::calls::task_text;
-use crate::states::helpers::{NOTHING, ended, found_rows, listing};
+use crate::states::helpers::{NOTHING, ended, listing};
 use crate::states::told::{Step, Version, events_of, scan};
 use index_events::{Event, EventAnswer, EventsEnd, run_events};
 use index_keeper::MemStore;
-use index_state::{OpenFault, Standing};
+use index_state::{GroomTask, Standing};
 use row_types::{BuildId, CanonPath, Kind, OpenWorld, TrueRow, Truth};
 use sample_index::{Index, empty_store, opened};
 use sample_rows::{elf, name_text, paths, row};
 use std::alloc::Global;
 use std::process::Abort;
 use tree_trait::TwoWorld;
+
+/// The name that is to be looked for, with whether it is under a root, or nothing.
+fn task_text(rt: &impl Abort, alloc: Global, task: Option<&GroomTask>) -> String {
+    let Some(GroomTask { name, under }) = task else {
+        return String::new(alloc);
+    };
+    let name = name_text(alloc, name).expect(rt, "memory");
+    let place = if *under { "under a root" } else { "under none" };
+    format!(in alloc; "{name}{place}").expect(rt, "memory")
+}
 
 /// The paths, each with a space behind it.
 fn paths_text(rt: &impl Abort, alloc: Global, found: &[CanonPath]) -> String {
@@ -192,36 +201,4 @@ fn a_look_up_finds_the_paths_of_an_id(rt: HostRuntime) {
     let index = opened(alloc, &mut store).ok().expect(&rt, "an index opens");
     let events = publishes_and_looks(&rt, alloc);
     let _came = run(&rt, alloc, &mut store, index, events, FOUND.as_slice());
-}
-
-/// Asks for a name, and reopens, which is refused. How many events happened, and whether the keeper
-/// failed.
-fn refused(
-    rt: &impl Abort,
-    alloc: Global,
-    store: &mut MemStore<TwoWorld>,
-    index: Index<TwoWorld>,
-) -> (u64, bool) {
-    let events = events_of(rt, alloc, &[Step::Take, Step::Reopen, Step::Take]);
-    match run_events(alloc, index, store, "m", events) {
-        EventsEnd::Unopened { done, fault } => (done, matches!(fault, OpenFault::KeeperFault)),
-        _ => panic!(rt; "the reopening is refused"),
-    }
-}
-
-// The calls of the store: its opening, the reading of its rows, a put, and then the two of the
-// reopening. The store stops at one of these two, and the next opening finds the row.
-#[test]
-fn a_reopening_that_is_refused_ends_the_events(rt: HostRuntime) {
-    let alloc = rt.alloc();
-    for stop_at in [3, 4] {
-        let mut store = empty_store(alloc, Some(stop_at));
-        let index = with_first(&rt, alloc, &mut store);
-        let (done, keeper_failed) = refused(&rt, alloc, &mut store, index);
-        assert!(rt; done == 1 && keeper_failed, "{stop_at}");
-        assert!(rt;
-            found_rows(&rt, alloc, &mut store).as_str() == "/w/a 1, ",
-            "{stop_at}"
-        );
-    }
 }

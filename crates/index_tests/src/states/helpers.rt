@@ -1,10 +1,10 @@
 //! What the tests share: stores, listings, and what an index is to answer.
 
 use index_keeper::{MemStore, Store};
-use index_state::{Begun, Plan, Standing};
-use row_types::{Name, OpenWorld, Truth};
-use sample_index::{Index, opened};
-use sample_rows::{name_text, names, paths, rows_text};
+use index_state::{Plan, Standing};
+use row_types::{Name, Truth};
+use sample_index::Index;
+use sample_rows::{name_text, names, rows_text};
 use scan_queue::Listing;
 use std::alloc::Global;
 use std::process::Abort;
@@ -32,28 +32,6 @@ pub fn ended<W: Truth + Send>(
     let standing = index.standing();
     store.give_back(index.into_keeper());
     (rows, standing)
-}
-
-/// The rows that an opening finds.
-pub fn found_rows<W: Truth + Send>(
-    rt: &impl Abort,
-    alloc: Global,
-    store: &mut MemStore<W>,
-) -> String {
-    let index = opened(alloc, store).ok().expect(rt, "an index opens");
-    ended(rt, alloc, store, index).0
-}
-
-/// Begins a pass under this root over files of these paths and sizes.
-pub fn begin(
-    rt: &impl Abort,
-    alloc: Global,
-    index: &mut Index<OpenWorld>,
-    root: &str,
-    files: &[(&str, u64)],
-) -> Begun {
-    let listing = listing(rt, alloc, files);
-    index.begin(alloc, listing, paths(alloc, &[root]).expect(rt, "a root"))
 }
 
 /// The path and the size of the name that is handed out, or nothing.

@@ -3,12 +3,12 @@
 ghost use Rattle.std.specs.Prelude.{◌≡◌, ◌⊎◌};
 ghost use Rattle.tree_trait.specs.TwoWorld.{first_stamp, path as only_path, second_stamp};
 
-use crate::states::helpers::{NO_PLAN, NOTHING, ended, found_rows, listing_of, taken_text};
+use crate::states::helpers::{listing_of, taken_text};
 use index_events::Event;
-use index_state::{Begun, Plan, Published, Standing};
+use index_state::{Begun, Published};
 use row_types::{BuildId, CanonPath, EDITION, Kind, Name, Reading, Row, Stamp, TrueRow, Why};
-use sample_index::{Index, empty_store, opened};
-use sample_rows::{path, paths, rows_text};
+use sample_index::{Index, opened};
+use sample_rows::{path, paths};
 use scan_queue::{Cause, Listing, Seen};
 use std::alloc::Global;
 use std::process::Abort;
@@ -151,76 +151,4 @@ pub fn scan(
         taken,
         index.publish(alloc, row_of(rt, alloc, version)),
     )
-}
-
-/// A pass over a version, of which this is planned and answered. The name that is taken and the rows
-/// in the end have the same text.
-fn scan_as(
-    rt: &impl Abort,
-    alloc: Global,
-    index: &mut Index<TwoWorld>,
-    version: Version,
-    plan: Plan,
-    want: Published,
-    text: &str,
-) {
-    let (begun, taken, said) = scan(rt, alloc, index, version);
-    assert!(rt; begun == Begun::Begun(plan));
-    assert!(rt; taken.as_str() == text);
-    assert!(rt; said == want);
-    let rows = rows_text(alloc, index.rows()).expect(rt, "memory");
-    assert!(rt; rows.as_str() == text);
-}
-
-/// Both versions, one after the other.
-fn scan_both(rt: &impl Abort, alloc: Global, index: &mut Index<TwoWorld>) {
-    let plan = Plan {
-        files: 1,
-        add: 1,
-        ..NO_PLAN
-    };
-    scan_as(
-        rt,
-        alloc,
-        index,
-        Version::First,
-        plan,
-        Published::Added,
-        "/w/a 1, ",
-    );
-    let plan = Plan {
-        files: 1,
-        replace: 1,
-        ..NO_PLAN
-    };
-    scan_as(
-        rt,
-        alloc,
-        index,
-        Version::Second,
-        plan,
-        Published::Replaced,
-        "/w/a 2, ",
-    );
-}
-
-// The first version's name isn't listed by the second pass, and stays to be looked for.
-#[test]
-fn a_second_version_replaces_the_first(rt: HostRuntime) {
-    let alloc = rt.alloc();
-    let mut store = empty_store(alloc, None);
-    let mut index = opened(alloc, &mut store).ok().expect(&rt, "an index opens");
-    scan_both(&rt, alloc, &mut index);
-    let (_, standing) = ended(&rt, alloc, &mut store, index);
-    let left = Standing {
-        groom: 1,
-        log: 2,
-        rows: 1,
-        ..NOTHING
-    };
-    assert!(rt; standing == left);
-    assert!(rt;
-        found_rows(&rt, alloc, &mut store).as_str() == "/w/a 2, ",
-        "opened again"
-    );
 }

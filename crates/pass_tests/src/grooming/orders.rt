@@ -1,9 +1,9 @@
-//! Several rows, one after the other and by two threads.
+//! Several rows, by two threads.
 
 ghost use Rattle.std.specs.Prelude.{◌≡◌};
 ghost use Rattle.std.specs.Thread.{IsSync};
 
-use crate::grooming::helpers::{index_of, outcome_of_one, report};
+use crate::grooming::helpers::index_of;
 use crate::rig::{file, still_tree};
 use groomer::{GroomReport, groom};
 use index_desk::WorkEnd;
@@ -39,18 +39,6 @@ fn tree(rt: &impl Abort, alloc: Global, bad_calls: &[u64]) -> MemTree<OpenWorld>
     let same = file(rt, alloc, "/srv/c", 1);
     let files = vec![in alloc; changed, same].expect(rt, "memory");
     still_tree(rt, alloc, files, bad_calls)
-}
-
-#[test]
-fn rows_are_groomed_by_path(rt: HostRuntime) {
-    let alloc = rt.alloc();
-    // The looks are those under the root: at /srv/a, b, c and d.
-    let outcome = outcome_of_one(&rt, alloc, index(&rt, alloc), tree(&rt, alloc, &[3]));
-    assert!(rt; outcome.report == report(3, 2));
-    assert!(rt; outcome.rows.as_str() == "/srv/c 1, /srv/d 1, ");
-    let standing = outcome.standing;
-    let numbers = (standing.out, standing.groom, standing.missed, standing.log);
-    assert!(rt; numbers == (0, 0, 2, 8));
 }
 
 /// What a groomer gives back.

@@ -1,6 +1,6 @@
 //! Passes in which a file isn't as it was listed.
 
-use crate::passes::passes::{Holds, Pass, run_passes};
+use crate::passes::passes::{Holds, Pass};
 use crate::rig::Files;
 
 /// A walk of `/srv` with one file makes three calls, and the reading of the file two: it is opened,
@@ -95,8 +95,3 @@ pub static MISSED: [Pass; 8] = [
         rows: &["/srv/bin/run.sh 10, "],
     },
 ];
-
-#[test]
-fn the_first_miss_is_told(rt: HostRuntime) {
-    run_passes(&rt, rt.alloc(), None, &MISSED, 0);
-}

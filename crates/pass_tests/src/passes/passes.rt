@@ -119,11 +119,10 @@ fn run_one<Rt: Abort + Threads + Wait + Sync>(
 pub fn run_passes<Rt: Abort + Threads + Wait + Sync>(
     rt: &Rt,
     alloc: Global,
-    stop_at: Option<u64>,
     passes: &[Pass],
     others: u64,
 ) {
-    let mut index = empty_index(alloc, stop_at).expect(rt, "an index");
+    let mut index = empty_index(alloc, None).expect(rt, "an index");
     for pass in passes {
         index = run_one(rt, alloc, index, pass, others);
     }

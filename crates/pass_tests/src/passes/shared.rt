@@ -106,15 +106,11 @@ fn share_passes<Rt: Abort + Threads + Wait + Sync>(
     }
 }
 
-#[test]
-fn one_hand_does_what_changed(rt: HostRuntime) {
-    share_passes(&rt, rt.alloc(), &WHOLE, 0);
-}
-
-// One that looks for files and none that reads, then one, two, seven and 64 that read twelve files.
+// One hand does all; then one looks for files and none reads, and then one, two, seven and 64 read
+// twelve files.
 #[test]
 fn any_number_of_hands_does_the_same_over_a_lock(rt: HostRuntime) {
-    for others in [1, 2, 3, 8, 65] {
+    for others in [0, 1, 2, 3, 8, 65] {
         share_passes(&rt, rt.alloc(), &WHOLE, others);
     }
 }

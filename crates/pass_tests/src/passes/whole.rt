@@ -100,34 +100,11 @@ pub static WHOLE: [Pass; 7] = [
     },
 ];
 
-// The numbers are those of the worked rows of the scan of this tree.
-#[test]
-fn each_pass_does_what_changed(rt: HostRuntime) {
-    run_passes(&rt, rt.alloc(), None, &WHOLE, 0);
-}
-
-// One that looks for files and none that reads, then one, two, seven and 64 that read twelve files.
+// The numbers are those of the worked rows of the scan of this tree. One hand does all; then one looks
+// for files and none reads, and then one, two, seven and 64 read twelve files.
 #[test]
 fn any_number_of_hands_does_the_same(rt: HostRuntime) {
-    for others in [1, 2, 3, 8, 65] {
-        run_passes(&rt, rt.alloc(), None, &WHOLE, others);
+    for others in [0, 1, 2, 3, 8, 65] {
+        run_passes(&rt, rt.alloc(), &WHOLE, others);
     }
-}
-
-/// The store's calls are the opening, the rows, and a put for each file.
-static STOPPED: [Pass; 1] = [Pass {
-    shows: "a store that stops at the third put",
-    hands: &[Holds {
-        files: Files::Reference,
-        later: None,
-        bad_calls: &[],
-    }],
-    roots: &["/srv/debug", "/w"],
-    end: "the store failed",
-    rows: &["/srv/debug/notes.txt 0, ", "/srv/debug/ppc.debug 324, "],
-}];
-
-#[test]
-fn a_store_that_fails_ends_the_pass(rt: HostRuntime) {
-    run_passes(&rt, rt.alloc(), Some(4), &STOPPED, 0);
 }

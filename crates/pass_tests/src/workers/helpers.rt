@@ -37,19 +37,6 @@ fn works<W: ElfTruth + Send, G: Gate, Rt: Wait + Sync>(
     (token, report)
 }
 
-/// The index after one worker with this hand, and its report.
-pub fn worked<W: ElfTruth + Send, G: Gate, Rt: Abort + Wait + Sync>(
-    rt: &Rt,
-    alloc: Global,
-    index: Index<W>,
-    hand: MemTree<W>,
-    gate: &G,
-) -> (Index<W>, WorkReport) {
-    let Shared { lock, seat } = put_behind(alloc, index).expect(rt, "memory");
-    let (seat, report) = works(rt, alloc, &lock, seat, hand, gate);
-    (taken(rt, Shared { lock, seat }), report)
-}
-
 /// What the work of one worker with this hand comes to.
 pub fn outcome_of_one<W: ElfTruth + Send, G: Gate, Rt: Abort + Wait + Sync>(
     rt: &Rt,
@@ -58,8 +45,9 @@ pub fn outcome_of_one<W: ElfTruth + Send, G: Gate, Rt: Abort + Wait + Sync>(
     hand: MemTree<W>,
     gate: &G,
 ) -> Outcome<WorkReport> {
-    let (index, report) = worked(rt, alloc, index, hand, gate);
-    outcome_of(alloc, index, report).expect(rt, "memory")
+    let Shared { lock, seat } = put_behind(alloc, index).expect(rt, "memory");
+    let (seat, report) = works(rt, alloc, &lock, seat, hand, gate);
+    outcome_of(alloc, taken(rt, Shared { lock, seat }), report).expect(rt, "memory")
 }
 
 /// Lets two workers work with a token and a hand each, one after the other.

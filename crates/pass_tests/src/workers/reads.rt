@@ -38,30 +38,22 @@ fn next_word(rt: &impl Abort, alloc: Global, tree: &mut MemTree<TwoWorld>) -> &'
     word_of(&read)
 }
 
-/// What the reading of the first version's name gives, one after the other. The file is opened, and
-/// its one part is read; another one is opened alone.
-static READS: [&str; 4] = ["not ELF", "the second", "failed", "gone"];
-
-#[test]
-fn a_name_is_read_call_by_call(rt: HostRuntime) {
-    let mut tree = tree(&rt, rt.alloc());
-    for wanted in &READS {
-        let word = next_word(&rt, rt.alloc(), &mut tree);
-        assert!(rt; word == *wanted, "{wanted}");
+/// Reads the first version's name again and again, and compares what that gives.
+fn compare(rt: &impl Abort, alloc: Global, mut tree: MemTree<TwoWorld>, wanted: &[&str]) {
+    for word in wanted {
+        let found = next_word(rt, alloc, &mut tree);
+        assert!(rt; found == *word, "{word}: {found}");
     }
 }
 
-/// What the reading of the first version's name gives, where the read behind the first opening
-/// fails, and another file stands there as the second is read.
-static UNREAD: [&str; 3] = ["failed", "not ELF", "the second"];
-
+// The file is opened, and its one part is read; another one is opened alone. In the second tree the
+// read behind the first opening fails, and another file stands there as the second is read.
 #[test]
-fn an_open_file_is_read_though_another_stands_there(rt: HostRuntime) {
+fn a_name_is_read_call_by_call(rt: HostRuntime) {
+    let words = ["not ELF", "the second", "failed", "gone"];
+    compare(&rt, rt.alloc(), tree(&rt, rt.alloc()), &words);
     let second = Some(Version::Second);
     let versions = [Some(Version::First), second, second];
-    let mut tree = changing_tree(&rt, rt.alloc(), versions, &[3], &[1]);
-    for wanted in &UNREAD {
-        let word = next_word(&rt, rt.alloc(), &mut tree);
-        assert!(rt; word == *wanted, "{wanted}");
-    }
+    let tree = changing_tree(&rt, rt.alloc(), versions, &[3], &[1]);
+    compare(&rt, rt.alloc(), tree, &["failed", "not ELF", "the second"]);
 }

@@ -34,8 +34,9 @@ fn each_limit_has_its_line(rt: HostRuntime) {
     says(&rt, alloc, &changes, "dbgd: limit changes\n", 5);
 }
 
-/// The end at a file that was another: it was listed one second and one nanosecond before 1970.
-fn altered(rt: &impl Abort, alloc: Global, seen: Seen) -> ScanEnd {
+/// The end at a file that was missed by this cause: its name has one second and one nanosecond before
+/// 1970.
+fn missed(rt: &impl Abort, alloc: Global, cause: Cause) -> ScanEnd {
     let text = String::from_str(alloc, "/srv/a").expect(rt, "memory");
     let path = CanonPath::check(text).ok().expect(rt, "a path");
     let stamp = Stamp {
@@ -45,7 +46,7 @@ fn altered(rt: &impl Abort, alloc: Global, seen: Seen) -> ScanEnd {
     };
     ScanEnd::Passed(PassEnd::Missed(Miss {
         name: Name { path, stamp },
-        cause: Cause::Altered { seen },
+        cause,
     }))
 }
 
@@ -59,7 +60,7 @@ const LARGEST: Stamp = Stamp {
 #[test]
 fn what_stands_in_a_file_s_place_is_said(rt: HostRuntime) {
     let alloc = rt.alloc();
-    let gone = altered(&rt, alloc, Seen::Gone);
+    let gone = missed(&rt, alloc, Cause::Altered { seen: Seen::Gone });
     says(
         &rt,
         alloc,
@@ -67,7 +68,7 @@ fn what_stands_in_a_file_s_place_is_said(rt: HostRuntime) {
         "dbgd: altered /srv/a listed 0:-2:999999999 seen gone\n",
         4,
     );
-    let other = altered(&rt, alloc, Seen::Other);
+    let other = missed(&rt, alloc, Cause::Altered { seen: Seen::Other });
     says(
         &rt,
         alloc,
@@ -75,13 +76,27 @@ fn what_stands_in_a_file_s_place_is_said(rt: HostRuntime) {
         "dbgd: altered /srv/a listed 0:-2:999999999 seen other\n",
         4,
     );
-    let largest = altered(&rt, alloc, Seen::File(LARGEST));
+    let largest = missed(
+        &rt,
+        alloc,
+        Cause::Altered {
+            seen: Seen::File(LARGEST),
+        },
+    );
     says(
         &rt,
         alloc,
         &largest,
         "dbgd: altered /srv/a listed 0:-2:999999999 \
         seen 18446744073709551615:0:000000007\n",
+        4,
+    );
+    let stands = missed(&rt, alloc, Cause::Appeared);
+    says(
+        &rt,
+        alloc,
+        &stands,
+        "dbgd: appeared /srv/a 0:-2:999999999\n",
         4,
     );
 }

@@ -6,7 +6,7 @@ use crate::runs::hands::File::{
 };
 use crate::runs::hands::Files::One;
 use crate::runs::hands::hand_of;
-use crate::runs::rig::{Plan, Run, SOUND, run_all};
+use crate::runs::rig::{Run, SOUND, run_all};
 use std::alloc::Global;
 use std::process::Abort;
 use std::sync::Wait;
@@ -119,37 +119,6 @@ fn the_source_paths_are_printed(rt: HostRuntime) {
     each_says(&rt, rt.alloc(), &["sources", "/w/a"], &PATHS_OF);
 }
 
-/// Words that name a file which isn't there.
-static GONE: [(&[&str], &str); 3] = [
-    (&["ident", "w//b"], "dbgd: gone w//b\n"),
-    (&["section", "/b", ".text"], "dbgd: gone /b\n"),
-    (&["sources", "/w/a/"], "dbgd: gone /w/a/\n"),
-];
-
-/// Words whose opening, or whose first or fourth read fails.
-static UNREAD: [&[&str]; 3] = [
-    &["sources", "/w/a"],
-    &["ident", "/w/a"],
-    &["section", "/w/a", ".text"],
-];
-
-/// Runs the words over a file at `/w/a`, of which the call of a number fails.
-fn call_fails<Rt: Threads + Wait + Sync + Abort>(
-    rt: &Rt,
-    alloc: Global,
-    words: &[&str],
-    number: u64,
-) {
-    let case = Run(words, b"", "dbgd: fault file\n", 1);
-    run_all(
-        rt,
-        alloc,
-        hand_of(rt, alloc, &One(Both), &[number]),
-        &SOUND,
-        &[case],
-    );
-}
-
 /// Words over a file with an identity that has no bytes of debug information, and what they say.
 static WINDOWS_ALONE: [(&[&str], &[u8]); 3] = [
     (
@@ -170,101 +139,16 @@ fn nothing_is_read_but_what_the_answer_rests_on(rt: HostRuntime) {
     }
 }
 
-/// Words, the writes that fail on out and on err, how many bytes a write takes at most, and what is
-/// said.
-type Written = (
-    &'static [&'static str],
-    &'static [u64],
-    &'static [u64],
-    usize,
-    Said,
-);
-
-/// The line of an output that fails.
-const FAULT: &str = "dbgd: fault output\n";
-
-/// Sinks that fail, or take three bytes at a time.
-static SINKS: [Written; 8] = [
-    (
-        &["sources", "/w/a"],
-        &[0],
-        &[],
-        1000,
-        (DwarfFive, b"", FAULT, 1),
-    ),
-    (
-        &["sources", "/w/a"],
-        &[4],
-        &[],
-        3,
-        (DwarfFive, b"/w/src/inc/u", FAULT, 1),
-    ),
-    (&["ident", "/w/a"], &[0], &[], 1000, (Both, b"", FAULT, 1)),
-    (
-        &["section", "/w/a", ".text"],
-        &[0],
-        &[],
-        1000,
-        (Executable, b"", FAULT, 1),
-    ),
-    (&["ident", "/w/a"], &[0], &[0], 1000, (Both, b"", "", 1)),
-    (
-        &["ident", "/w/b"],
-        &[],
-        &[1],
-        1000,
-        (Both, b"", "dbgd: gone ", 3),
-    ),
-    (
-        &["ident", "/w/a"],
-        &[],
-        &[],
-        3,
-        (
-            Both,
-            b"000102030405060708090a0b0c0d0e0f10111213 both\n",
-            "",
-            0,
-        ),
-    ),
-    (
-        &["ident", "/w/a"],
-        &[4],
-        &[],
-        3,
-        (Both, b"000102030405", FAULT, 1),
-    ),
+/// Words that name a file which isn't there.
+static GONE: [(&[&str], &str); 3] = [
+    (&["ident", "w//b"], "dbgd: gone w//b\n"),
+    (&["section", "/b", ".text"], "dbgd: gone /b\n"),
+    (&["sources", "/w/a/"], "dbgd: gone /w/a/\n"),
 ];
 
-/// Runs each with its sinks.
-fn each_writes<Rt: Threads + Wait + Sync + Abort>(rt: &Rt, alloc: Global, cases: &[Written]) {
-    for (words, bad_out, bad_err, width, (file, out, err, status)) in cases {
-        let plan = Plan {
-            bad_out,
-            bad_err,
-            width: *width,
-            ..SOUND
-        };
-        let case = Run(words, out, err, *status);
-        run_all(
-            rt,
-            alloc,
-            hand_of(rt, alloc, &One(*file), &[]),
-            &plan,
-            &[case],
-        );
-    }
-}
-
 #[test]
-fn what_fails_is_said_and_left_as_it_is(rt: HostRuntime) {
+fn a_file_that_is_gone_is_said(rt: HostRuntime) {
     for (words, line) in &GONE {
         each_says(&rt, rt.alloc(), words, &[(Both, b"", *line, 3)]);
     }
-    for words in &UNREAD {
-        call_fails(&rt, rt.alloc(), words, 0);
-        call_fails(&rt, rt.alloc(), words, 1);
-        call_fails(&rt, rt.alloc(), words, 4);
-    }
-    each_writes(&rt, rt.alloc(), &SINKS);
 }

@@ -51,18 +51,6 @@ pub enum Files {
     One(File),
     /// `/srv/a` of both classes and `/srv/b`, a text.
     Two,
-    /// `/srv/a` of those two.
-    First,
-    /// Those two, of which `/srv/a` is a text by now.
-    Altered,
-    /// Those two, of which `/srv/b` is a longer text by now, too.
-    BothAltered,
-    /// Those two, and `/srv/c` without bytes.
-    Three,
-    /// Of these `/srv/b` is longer by now, `/srv/c` is gone, and `/srv/d`, code, came.
-    Later,
-    /// Those two, and `/w/a` without bytes.
-    Wide,
     /// `/srv/run.sh`, a script.
     Alone,
     /// That script, and `/srv/tool`, code.
@@ -140,37 +128,6 @@ fn files_of(rt: &impl Abort, alloc: Global, files: &Files) -> Vec<Found<OpenWorl
         Files::Two => vec![in alloc;
             found(rt, alloc, "/srv/a", &File::Both),
             found(rt, alloc, "/srv/b", &File::Text),
-        ]
-        .expect(rt, "memory"),
-        Files::First => {
-            vec![in alloc; found(rt, alloc, "/srv/a", &File::Both)].expect(rt, "memory")
-        }
-        Files::Altered => vec![in alloc;
-            found(rt, alloc, "/srv/a", &File::LongText),
-            found(rt, alloc, "/srv/b", &File::Text),
-        ]
-        .expect(rt, "memory"),
-        Files::BothAltered => vec![in alloc;
-            found(rt, alloc, "/srv/a", &File::LongText),
-            found(rt, alloc, "/srv/b", &File::LongText),
-        ]
-        .expect(rt, "memory"),
-        Files::Three => vec![in alloc;
-            found(rt, alloc, "/srv/a", &File::Both),
-            found(rt, alloc, "/srv/b", &File::Text),
-            found(rt, alloc, "/srv/c", &File::Empty),
-        ]
-        .expect(rt, "memory"),
-        Files::Later => vec![in alloc;
-            found(rt, alloc, "/srv/a", &File::Both),
-            found(rt, alloc, "/srv/b", &File::LongText),
-            found(rt, alloc, "/srv/d", &File::Executable),
-        ]
-        .expect(rt, "memory"),
-        Files::Wide => vec![in alloc;
-            found(rt, alloc, "/srv/a", &File::Both),
-            found(rt, alloc, "/srv/b", &File::Text),
-            found(rt, alloc, "/w/a", &File::Empty),
         ]
         .expect(rt, "memory"),
         Files::Alone => {

@@ -13,7 +13,7 @@ use std::marker::PhantomData;
 use std::process::Abort;
 use std::sync::Wait;
 use std::thread::Threads;
-use tree_trait::{LoadAnswer, MemClock, NoGate, Tree};
+use tree_trait::{MemClock, NoGate, Tree};
 
 /// When the objects around a hand fail: the call of the store from which on it fails, until it is
 /// opened again, those of its calls that fail once, the writes that fail on out and on err, and how
@@ -65,7 +65,7 @@ impl Sink for Narrow {
 }
 
 /// The objects of a run.
-type Memory<W, T> = Outside<W, T, MemStore<W>, MemDoor, MemLink, MemClock, Narrow, NoGate>;
+pub type Memory<W, T> = Outside<W, T, MemStore<W>, MemDoor, MemLink, MemClock, Narrow, NoGate>;
 
 /// The words as the program gets them.
 pub fn words_of(rt: &impl Abort, alloc: Global, words: &[&str]) -> Vec<String> {
@@ -104,7 +104,7 @@ pub fn one_hand<T: Drop>(rt: &impl Abort, alloc: Global, hand: T) -> Vec<T> {
 }
 
 /// The objects around hands and a store, by a plan.
-fn outside_of<W: ElfTruth + Send + Sync, T: Tree<W>>(
+pub fn outside_of<W: ElfTruth + Send + Sync, T: Tree<W>>(
     rt: &impl Abort,
     alloc: Global,
     hands: Vec<T>,
@@ -131,15 +131,15 @@ pub fn compare(rt: &impl Abort, sink: &MemSink, want: &[u8], name: &str, words: 
 }
 
 /// The status of a run of these words.
-fn status_of<W: ElfTruth + Send + Sync, T: Tree<W>, Rt: Threads + Wait + Sync + Abort>(
+pub fn status_of<W: ElfTruth + Send + Sync, T: Tree<W>, Rt: Threads + Wait + Sync + Abort>(
     rt: &Rt,
     alloc: Global,
     outside: &mut Memory<W, T>,
     words: &[&str],
 ) -> u8 {
-    assert!(rt; !outside.hands.is_empty(), "a hand");
     let texts = words_of(rt, alloc, words);
     let needs = needs(alloc, texts.as_slice()).expect(rt, "memory");
+    assert!(rt; needs.hands.min(1) <= outside.hands.len() as u64, "a hand");
     assert!(rt; needs.doors == 0, "a server");
     run(rt, alloc, texts.as_slice(), outside)
 }
@@ -219,57 +219,33 @@ fn local_answer<W: ElfTruth + Send + Sync, T: Tree<W>>(
     outside: &mut Memory<W, T>,
     words: &[&str],
 ) -> Option<u8> {
-    assert!(rt; !outside.hands.is_empty(), "a hand");
     let texts = words_of(rt, alloc, words);
+    let needs = needs(alloc, texts.as_slice()).expect(rt, "memory");
+    assert!(rt; needs.hands.min(1) <= outside.hands.len() as u64, "a hand");
     run_local(alloc, texts.as_slice(), outside)
 }
 
-/// Compares what the local part answers to these words, one after the other.
+/// Compares what the local part answers to these words, one after the other, over a hand.
 pub fn answer_locally<W: ElfTruth + Send + Sync, T: Tree<W>>(
     rt: &impl Abort,
     alloc: Global,
     hand: T,
     cases: &[(&[&str], Option<u8>)],
 ) {
-    let hands = one_hand(rt, alloc, hand);
+    answer_alone(rt, alloc, one_hand(rt, alloc, hand), cases);
+}
+
+/// The same over these hands.
+pub fn answer_alone<W: ElfTruth + Send + Sync, T: Tree<W>>(
+    rt: &impl Abort,
+    alloc: Global,
+    hands: Vec<T>,
+    cases: &[(&[&str], Option<u8>)],
+) {
     let store = empty_store(rt, alloc, &SOUND);
     let mut outside = outside_of(rt, alloc, hands, store, &SOUND);
     for (words, want) in cases {
         let answer = local_answer(rt, alloc, &mut outside, words);
         assert!(rt; answer == *want, "{words:?}: {answer:?}");
-    }
-}
-
-/// What out got by the end of a run of these words, which ends with 0.
-pub fn said_by<W: ElfTruth + Send + Sync, T: Tree<W>, Rt: Threads + Wait + Sync + Abort>(
-    rt: &Rt,
-    alloc: Global,
-    hand: T,
-    words: &[&str],
-) -> Vec<u8> {
-    let hands = one_hand(rt, alloc, hand);
-    let store = empty_store(rt, alloc, &SOUND);
-    let mut outside = outside_of(rt, alloc, hands, store, &SOUND);
-    let ended = status_of(rt, alloc, &mut outside, words);
-    assert!(rt; ended == 0, "{words:?}: {ended}");
-    let got = outside.out.sink.written().expect(rt, "told");
-    Vec::from_slice(alloc, got).expect(rt, "memory")
-}
-
-/// Whether a load by the hand at a place fails after a run of these words, which ends with 0.
-pub fn fails_after<W: ElfTruth + Send + Sync, T: Tree<W>, Rt: Threads + Wait + Sync + Abort>(
-    rt: &Rt,
-    alloc: Global,
-    hands: Vec<T>,
-    words: &[&str],
-    place: usize,
-) -> bool {
-    let store = empty_store(rt, alloc, &SOUND);
-    let mut outside = outside_of(rt, alloc, hands, store, &SOUND);
-    let ended = status_of(rt, alloc, &mut outside, words);
-    assert!(rt; ended == 0, "{words:?}: {ended}");
-    match outside.hands.as_mut_slice().get_mut(place) {
-        Some(hand) => matches!(hand.load(alloc, "/srv/a", 1000), LoadAnswer::Failed),
-        None => false,
     }
 }

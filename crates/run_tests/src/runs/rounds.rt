@@ -2,9 +2,8 @@
 
 ghost use Rattle.std.specs.Prelude.{◌≡◌, None, IfSome, IsSome};
 
-use crate::runs::crowded::Crowded;
-use crate::runs::hands::Files::{Altered, Two};
-use crate::runs::hands::{hand_of, turning};
+use crate::runs::hands::Files::Two;
+use crate::runs::hands::hand_of;
 use crate::runs::rig::one_hand;
 use dbgd_metrics::{Book, Drawn, Share};
 use dbgd_run::{PassesEnd, keep_passing};
@@ -103,31 +102,6 @@ static STILL: [Case; 5] = [
     },
 ];
 
-/// The first of two files is another by the time that it is loaded, and the next pass reads it.
-static MISSED: Case = Case {
-    shows: "a pass that missed a file, and a whole one",
-    rounds: 2,
-    stop_at: None,
-    bad_out: &[],
-    out: b"scan: 2 files, 1 added, 0 replaced, 0 dropped, 1 kept, 0 executables, 0 debuginfo\n",
-    err: "dbgd: altered /srv/a listed 488:100:000000000 seen 7:100:000000000\n",
-    end: PassesEnd::Stopped,
-    page: "dbgd_body_bytes_total 0\ndbgd_rows_added_total 1\n\
-        dbgd_rows_replaced_total 0\ndbgd_rows_dropped_total 0\ndbgd_passes_total 1\n",
-};
-
-/// There is no memory for a walk.
-static WANTS: Case = Case {
-    shows: "a pass that wants memory says so, and the passing goes on",
-    rounds: 2,
-    stop_at: None,
-    bad_out: &[],
-    out: b"",
-    err: "dbgd: out of memory\ndbgd: out of memory\n",
-    end: PassesEnd::Stopped,
-    page: ZEROS,
-};
-
 /// The share with a row, if there was one left.
 fn drawn<R: Wait>(rt: &R, book: &Book, share: Share) -> Option<Share>
     requires book { share.book ≡ book.now.id }
@@ -141,7 +115,7 @@ fn drawn<R: Wait>(rt: &R, book: &Book, share: Share) -> Option<Share>
 }
 
 /// A table of one row, and the share that has it.
-fn one_share<R: Abort + Wait>(rt: &R, alloc: Global) -> (Book, Share)
+pub fn one_share<R: Abort + Wait>(rt: &R, alloc: Global) -> (Book, Share)
     ensures { (result.1.book ≡ result.0.id) × IsSome result.1.row }
 {
     let (book, share) = Book::make(alloc, 1).expect(rt, "memory");
@@ -269,15 +243,4 @@ fn one_pass_is_made_after_each_wait(rt: HostRuntime) {
     for case in &STILL {
         keep(&rt, rt.alloc(), hand_of(&rt, rt.alloc(), &Two, &[]), case);
     }
-}
-
-#[test]
-fn a_pass_that_missed_a_file_is_told_and_not_counted(rt: HostRuntime) {
-    let hand = turning(&rt, rt.alloc(), &[Two, Altered, Altered], &[4, 5]);
-    keep(&rt, rt.alloc(), hand, &MISSED);
-}
-
-#[test]
-fn want_of_memory_in_a_pass_does_not_end_the_passing(rt: HostRuntime) {
-    keep(&rt, rt.alloc(), Crowded::NoMemory, &WANTS);
 }

@@ -1,6 +1,8 @@
 //! One harness for servers: each is run over doors, a clock, a store and sinks in memory, and what out
 //! and err got, the status, the waits and the replies are compared.
 
+ghost use Rattle.std.specs.Prelude.{◌≡◌, All, length};
+
 use crate::runs::hands::{Files, hand_of};
 use crate::runs::rig::{Narrow, Plan, Run, compare, empty_store, sink_of, words_of};
 use crate::runs::serves_replies::{Ask, replies};
@@ -107,6 +109,15 @@ pub fn around<W: ElfTruth + Send + Sync, T: Tree<W>, D: Door, G: Gate + Drop>(
     }
 }
 
+/// Each of these rows has so many links.
+fn are_linked(rt: &impl Abort, rows: &[Vec<MemLink>], count: usize)
+    ensures { All (λ row. length row.items ≡ count) rows.now }
+{
+    for row in rows {
+        assert!(rt; row.len() == count, "links");
+    }
+}
+
 /// The status of a server.
 fn status_of<
     W: ElfTruth + Send + Sync,
@@ -117,7 +128,6 @@ fn status_of<
 >(rt: &Rt, alloc: Global, server: &mut Server<W, T, D, G>, words: &[&str]) -> u8 {
     let texts = words_of(rt, alloc, words);
     let needs = needs(alloc, texts.as_slice()).expect(rt, "memory");
-    assert!(rt; !server.hands.is_empty(), "a hand");
     assert!(rt;
         needs.hands <= server.hands.len() as u64,
         "hands of {words:?}"
@@ -130,6 +140,7 @@ fn status_of<
         needs.doors <= server.links.len() as u64,
         "rows of links of {words:?}"
     );
+    are_linked(rt, server.links.as_slice(), needs.upstream.len());
     run(rt, alloc, texts.as_slice(), server)
 }
 

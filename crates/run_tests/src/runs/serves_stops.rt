@@ -1,4 +1,4 @@
-//! Servers whose store fails while they serve, or keeps what is no row.
+//! Servers whose store fails while they serve.
 
 use crate::runs::hands::Files::{Early, Late};
 use crate::runs::hands::{hand_of, turning};
@@ -6,14 +6,13 @@ use crate::runs::rig::{Plan, Run, SOUND};
 use crate::runs::serves_replies::{Ask, NOT_FOUND, reply_with};
 use crate::runs::serves_rig::{Server, around, door, doors, has_ended, is_answered, serve};
 use http_wire::MemDoor;
-use index_keeper::{Kept, MemStore};
 use row_types::OpenWorld;
 use sample_world::Sample;
 use std::alloc::Global;
 use std::process::Abort;
 use std::sync::Wait;
 use std::thread::Threads;
-use tree_trait::{Gate, Hold, MemTree, NoGate, Point, TurnGate};
+use tree_trait::{Gate, Hold, MemTree, Point, TurnGate};
 
 /// A gate behind another.
 #[derive(Drop)]
@@ -143,25 +142,5 @@ fn requests_are_answered_while_the_store_fails(rt: HostRuntime) {
             ..SOUND
         };
         serve_over(&rt, alloc, &from_there, &BROKEN_RUN);
-    }
-}
-
-/// A store that keeps a value which is no row.
-fn bad_store(rt: &impl Abort, alloc: Global) -> MemStore<OpenWorld> {
-    let value = Kept::of(alloc, "/a", &[0]).expect(rt, "memory");
-    let kept = vec![in alloc; value].expect(rt, "memory");
-    MemStore::new(alloc, kept, None, Vec::new(alloc))
-}
-
-#[test]
-fn a_value_that_is_no_row_is_named_and_nothing_is_served(rt: HostRuntime) {
-    let alloc = rt.alloc();
-    let doors = doors(&rt, alloc, &[&[STAYS]]);
-    let mut server = around(&rt, alloc, changing(&rt, alloc), doors, NoGate, &SOUND, 1);
-    server.store = bad_store(&rt, alloc);
-    let run = Run(SERVE, b"", "dbgd: bad row /a\n", 7);
-    serve(&rt, alloc, &mut server, &run, &[]);
-    for door in &server.doors {
-        has_ended(&rt, door, 0);
     }
 }

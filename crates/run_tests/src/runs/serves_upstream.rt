@@ -4,8 +4,7 @@ use crate::runs::hands::Files::Alone;
 use crate::runs::rig::{Run, SOUND};
 use crate::runs::serves_replies::{NOT_FOUND, reply_with};
 use crate::runs::serves_rig::{Server, around, doors, hands, has_ended, is_answered, serve};
-use crate::runs::workers::needs_of;
-use federation::{LinkAnswer, MemLink, UpstreamAt};
+use federation::{LinkAnswer, MemLink};
 use http_wire::MemDoor;
 use row_types::OpenWorld;
 use sample_world::Sample;
@@ -26,6 +25,8 @@ enum Said {
     Missing,
     /// That it failed.
     Failed,
+    /// That memory was refused.
+    NoMemory,
 }
 
 /// The requests for the tool, for its code, and for a source.
@@ -60,6 +61,9 @@ const HOP_LIMIT: &[u8] = b"HTTP/1.1 404 Not Found\r\nContent-Type: text/plain\r\
 const UPSTREAM_FAULT: &[u8] = b"HTTP/1.1 502 Bad Gateway\r\nContent-Type: text/plain\r\n\
     Content-Length: 15\r\nConnection: keep-alive\r\n\r\nupstream fault\n";
 
+const OUT_OF_MEMORY: &[u8] = b"HTTP/1.1 507 Insufficient Storage\r\nContent-Type: text/plain\r\n\
+    Content-Length: 14\r\nConnection: keep-alive\r\n\r\nout of memory\n";
+
 /// A request, what each link answers in order, how often each is asked, and the reply: its front, and the
 /// file behind it.
 struct Case(
@@ -70,7 +74,7 @@ struct Case(
     Option<Sample>,
 );
 
-static CASES: [Case; 9] = [
+static CASES: [Case; 11] = [
     Case(
         TOOL,
         &[
@@ -134,9 +138,17 @@ static CASES: [Case; 9] = [
         None,
     ),
     Case(SOURCE, &[&[Said::Word], &[]], &[1, 0], FOUND_WORD, None),
+    Case(SOURCE, &[&[Said::Word]], &[1], FOUND_WORD, None),
+    Case(
+        TOOL,
+        &[&[Said::NoMemory], &[Said::File(Sample::Tool)]],
+        &[0, 0],
+        OUT_OF_MEMORY,
+        None,
+    ),
 ];
 
-/// A server that asks two others, of an index with a script alone.
+/// A server that asks two others. Its index is empty, since its folder is gone.
 static ASKING: Run = Run(
     &[
         "serve",
@@ -148,31 +160,29 @@ static ASKING: Run = Run(
         "0",
         "--upstream",
         "http://a:8002 http://b",
-        "/srv",
+        "/none",
     ],
-    b"serving on 8002 with 1 workers\n\
-        scan: 1 files, 1 added, 0 replaced, 0 dropped, 0 kept, 0 executables, 0 debuginfo\n",
-    "",
+    b"serving on 8002 with 1 workers\n",
+    "dbgd: gone /none\n",
     0,
 );
 
-/// The same with two workers.
-static BOTH_ASKING: Run = Run(
+/// The same server, which asks one other.
+static ASKING_ONE: Run = Run(
     &[
         "serve",
         "-d",
         "m",
         "-c",
-        "2",
+        "1",
         "-t",
         "0",
         "--upstream",
         "http://a:8002",
-        "/srv",
+        "/none",
     ],
-    b"serving on 8002 with 2 workers\n\
-        scan: 1 files, 1 added, 0 replaced, 0 dropped, 0 kept, 0 executables, 0 debuginfo\n",
-    "",
+    b"serving on 8002 with 1 workers\n",
+    "dbgd: gone /none\n",
     0,
 );
 
@@ -195,6 +205,7 @@ fn answer_of(rt: &impl Abort, alloc: Global, said: Said) -> LinkAnswer {
             body: Vec::new(alloc),
         },
         Said::Failed => LinkAnswer::Failed,
+        Said::NoMemory => LinkAnswer::OutOfMemory,
     }
 }
 
@@ -271,7 +282,12 @@ fn wanted_of(rt: &impl Abort, alloc: Global, case: &Case) -> Vec<u8> {
 fn ask<Rt: Threads + Wait + Sync + Abort>(rt: &Rt, alloc: Global, case: &Case) {
     let Case(request, said, counts, _, _) = case;
     let mut server = server_of(rt, alloc, &[&[*request]], &[*said], 4);
-    serve(rt, alloc, &mut server, &ASKING, &[]);
+    let run = if said.len() == 1 {
+        &ASKING_ONE
+    } else {
+        &ASKING
+    };
+    serve(rt, alloc, &mut server, run, &[]);
     let wanted = wanted_of(rt, alloc, case);
     for door in server.doors.as_slice() {
         has_reply(rt, door, wanted.as_slice());
@@ -285,85 +301,5 @@ fn ask<Rt: Threads + Wait + Sync + Abort>(rt: &Rt, alloc: Global, case: &Case) {
 fn what_is_not_here_is_asked_of_others(rt: HostRuntime) {
     for case in &CASES {
         ask(&rt, rt.alloc(), case);
-    }
-}
-
-/// Rows of two workers, and one that is nobody's.
-static ROWS: [&[&[Said]]; 3] = [
-    &[&[Said::File(Sample::Tool)]],
-    &[&[Said::Missing]],
-    &[&[Said::File(Sample::Tool)]],
-];
-
-/// How often the link of each of these rows is asked.
-static COUNTS: [&[usize]; 3] = [&[1], &[1], &[0]];
-
-#[test]
-fn each_worker_asks_by_its_own_row(rt: HostRuntime) {
-    let alloc = rt.alloc();
-    let mut server = server_of(&rt, alloc, &[&[TOOL], &[TOOL]], &ROWS, 6);
-    serve(&rt, alloc, &mut server, &BOTH_ASKING, &[]);
-    let found = reply_with(&rt, alloc, FOUND, Sample::Tool);
-    for (place, door) in server.doors.as_slice().iter().enumerate() {
-        let wanted = if place == 0 {
-            found.as_slice()
-        } else {
-            NOT_FOUND
-        };
-        has_reply(&rt, door, wanted);
-    }
-    let rows = server.links.as_slice();
-    assert!(rt; rows.len() == COUNTS.len(), "{} rows", rows.len());
-    for (row, counts) in rows.iter().zip(COUNTS.iter()) {
-        are_asked(&rt, row.as_slice(), *counts);
-    }
-}
-
-/// A link was asked for the tool alone, with no hop before.
-fn is_asked_for_the_tool(rt: &impl Abort, link: &MemLink) {
-    for question in link.asked() {
-        let target = question.target();
-        assert!(rt;
-            target == b"/buildid/404142434445464748494a4b4c4d4e4f50515253/executable".as_slice(),
-            "{target:?}"
-        );
-        assert!(rt; question.hops() == 0, "{} hops", question.hops());
-    }
-}
-
-#[test]
-fn a_question_has_the_route_and_the_hops(rt: HostRuntime) {
-    let alloc = rt.alloc();
-    let mut server = server_of(&rt, alloc, &[&[TOOL]], &[&[&[Said::Missing]]], 4);
-    serve(&rt, alloc, &mut server, &ASKING, &[]);
-    for row in server.links.as_slice() {
-        are_asked(&rt, row.as_slice(), &[1]);
-        for link in row.as_slice() {
-            is_asked_for_the_tool(&rt, link);
-        }
-    }
-}
-
-/// The servers of the words that ask two: host, port and base.
-static SERVERS: [(&str, u16, &str); 2] = [("a", 8002, ""), ("b", 80, "")];
-
-/// A server is there.
-fn is_at(rt: &impl Abort, at: &UpstreamAt, wanted: (&str, u16, &str)) {
-    let got = (at.host.as_str(), at.port, at.base.as_str());
-    assert!(rt; got == wanted, "{got:?}");
-}
-
-#[test]
-fn the_words_say_which_servers_are_asked(rt: HostRuntime) {
-    let alloc = rt.alloc();
-    let Run(words, ..) = &ASKING;
-    let needs = needs_of(&rt, alloc, words);
-    assert!(rt;
-        needs.upstream.len() == SERVERS.len(),
-        "{} servers",
-        needs.upstream.len()
-    );
-    for (at, wanted) in needs.upstream.as_slice().iter().zip(SERVERS.iter()) {
-        is_at(&rt, at, *wanted);
     }
 }

@@ -72,35 +72,6 @@ fn words_that_ask_nothing_give_their_line(rt: HostRuntime) {
     each_says(&rt, rt.alloc(), &UNREADABLE, USAGE, 2);
 }
 
-/// A scan of the folder `/none` with so many slashes behind it.
-fn scan_of<Rt: Threads + Wait + Sync + Abort>(
-    rt: &Rt,
-    alloc: Global,
-    slashes: u64,
-    err: &str,
-    status: u8,
-) {
-    let mut long = String::from_str(alloc, "/none").expect(rt, "memory");
-    for _ in 0..slashes {
-        long.push('/').expect(rt, "memory");
-    }
-    each_says(
-        rt,
-        alloc,
-        &[&["scan", "-d", "m", long.as_str()]],
-        err,
-        status,
-    );
-}
-
-// 4096 bytes are the most that a folder's word may have. The longer one ends with the usage, the other
-// is walked, and nothing is there.
-#[test]
-fn a_folder_has_at_most_4096_bytes(rt: HostRuntime) {
-    scan_of(&rt, rt.alloc(), 4091, "dbgd: gone /none\n", 3);
-    scan_of(&rt, rt.alloc(), 4092, USAGE, 2);
-}
-
 /// A line that is answered with the version of the program.
 static PROGRAM: Run = Run(&["--version"], b"dbgd 0.1.0\n", "", 0);
 

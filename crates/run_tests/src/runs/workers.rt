@@ -1,9 +1,7 @@
-//! Scans by several workers, and the hands that words need.
+//! Scans by several workers.
 
-use crate::runs::hands::Files::{BothAltered, Two};
-use crate::runs::hands::{hand_of, reference, turning};
-use crate::runs::rig::{Run, SOUND, empty_store, fails_after, run_over, words_of};
-use dbgd_run::{Needs, needs};
+use crate::runs::hands::reference;
+use crate::runs::rig::{Run, SOUND, empty_store, run_over};
 use row_types::OpenWorld;
 use std::alloc::Global;
 use std::process::Abort;
@@ -86,106 +84,5 @@ fn any_number_of_workers_says_the_same(rt: HostRuntime) {
             &SOUND,
             &[Run(*words, first, "", 0), Run(*words, both, "", 0)],
         );
-    }
-}
-
-/// Two files are others by the time that they are opened; the first of them is told.
-static FIRST_OF_TWO: &str = "dbgd: altered /srv/a listed 488:100:000000000 seen 7:100:000000000\n";
-
-/// So many hands: files change for the first one behind its walk, and for the others they have
-/// changed before. A walk of two files makes four calls.
-fn changing(rt: &impl Abort, alloc: Global, count: u64) -> Vec<MemTree<OpenWorld>> {
-    let mut hands = Vec::new(alloc);
-    let first = turning(rt, alloc, &[Two, BothAltered, BothAltered], &[4, 5]);
-    hands.push(first).expect(rt, "memory");
-    for _ in 1..count {
-        hands
-            .push(hand_of(rt, alloc, &BothAltered, &[]))
-            .expect(rt, "memory");
-    }
-    hands
-}
-
-#[test]
-fn the_first_of_two_altered_files_is_told(rt: HostRuntime) {
-    let alloc = rt.alloc();
-    for (workers, count) in [("1", 3), ("2", 4), ("7", 9)] {
-        let words = ["scan", "-d", "m", "-c", workers, "/srv"];
-        run_over(
-            &rt,
-            alloc,
-            changing(&rt, alloc, count),
-            empty_store(&rt, alloc, &SOUND),
-            &SOUND,
-            &[Run(&words, b"", FIRST_OF_TWO, 4)],
-        );
-    }
-}
-
-/// Three hands, and two that fail at their first call and at no other.
-fn with_others(rt: &impl Abort, alloc: Global) -> Vec<MemTree<OpenWorld>> {
-    let mut hands = Vec::new(alloc);
-    for place in 0..5 {
-        let bad: &[u64] = if place < 3 { &[] } else { &[0] };
-        hands
-            .push(hand_of(rt, alloc, &Two, bad))
-            .expect(rt, "memory");
-    }
-    hands
-}
-
-/// Hands, from 0, and whether their first call behind a scan by one worker fails: those that were not
-/// asked by the scan fail then. The worker has opened both files.
-static NEXT_CALLS: [(usize, bool); 3] = [(2, false), (3, true), (4, true)];
-
-#[test]
-fn hands_behind_those_of_the_workers_are_not_asked(rt: HostRuntime) {
-    let alloc = rt.alloc();
-    for (place, fails) in &NEXT_CALLS {
-        let words = ["scan", "-d", "m", "-c", "1", "/srv"];
-        let failed = fails_after(&rt, alloc, with_others(&rt, alloc), &words, *place);
-        assert!(rt; failed == *fails, "{place}: {failed}");
-    }
-}
-
-/// Words, how many hands and doors they need, and the doors' port.
-static NEEDS: [(&[&str], u64, u64, u16); 12] = [
-    (&["scan", "-d", "m", "-c", "1", "/srv"], 3, 0, 0),
-    (&["scan", "-d", "m", "-c", "64", "/srv"], 66, 0, 0),
-    (&["scan", "-d", "m", "/srv"], 6, 0, 0),
-    (&["scan", "-d", "m", "-c", "65", "/srv"], 0, 0, 0),
-    (&["serve", "-d", "m", "/srv"], 10, 4, 8002),
-    (
-        &["serve", "-d", "m", "-c", "1", "-p", "65535", "/srv"],
-        4,
-        1,
-        65535,
-    ),
-    (
-        &["serve", "-d", "m", "-c", "64", "-p", "1", "/srv"],
-        130,
-        64,
-        1,
-    ),
-    (&["serve", "-d", "m", "-c", "65", "/srv"], 0, 0, 0),
-    (&["ident", "/srv/a"], 1, 0, 0),
-    (&["section", "/srv/a", ".text"], 1, 0, 0),
-    (&["query", "-d", "m", "ffff"], 0, 0, 0),
-    (&[], 0, 0, 0),
-];
-
-/// What these words need.
-pub fn needs_of(rt: &impl Abort, alloc: Global, words: &[&str]) -> Needs {
-    let texts = words_of(rt, alloc, words);
-    needs(alloc, texts.as_slice()).expect(rt, "memory")
-}
-
-#[test]
-fn words_need_hands_and_doors(rt: HostRuntime) {
-    for (words, hands, doors, port) in &NEEDS {
-        let needed = needs_of(&rt, rt.alloc(), words);
-        assert!(rt; needed.hands == *hands, "{words:?}: {}", needed.hands);
-        assert!(rt; needed.doors == *doors, "{words:?}: {}", needed.doors);
-        assert!(rt; needed.port == *port, "{words:?}: {}", needed.port);
     }
 }

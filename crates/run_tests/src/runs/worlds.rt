@@ -2,11 +2,9 @@
 
 use crate::runs::crowded::Crowded;
 use crate::runs::rig::{Plan, Run, SOUND, run_all};
-use crate::runs::told::{changed_file, one_byte, told_reference};
+use crate::runs::told::{changed_file, told_reference};
 
 const IDENT: &[&str] = &["ident", "/w/a"];
-
-const SOURCES: &[&str] = &["sources", "/w/a"];
 
 const SCAN: &[&str] = &["scan", "-d", "m", "/srv"];
 
@@ -76,39 +74,6 @@ fn the_sample_world_is_read_and_scanned(rt: HostRuntime) {
     run_all(&rt, alloc, changed_file(&rt, alloc, 3), &SOUND, &CHANGED);
 }
 
-/// Twelve rows of the reference tree, and then the same rows.
-static TWICE: [Run; 2] = [
-    Run(
-        &["scan", "-d", "m", "/srv/bin", "/srv/debug", "/w"],
-        b"scan: 12 files, 12 added, 0 replaced, 0 dropped, 0 kept, 4 executables, 4 debuginfo\n",
-        "",
-        0,
-    ),
-    Run(
-        &["scan", "-d", "m", "/srv/bin", "/srv/debug", "/w"],
-        b"scan: 12 files, 12 added, 0 replaced, 0 dropped, 0 kept, 4 executables, 4 debuginfo\n\
-            scan: 12 files, 0 added, 0 replaced, 0 dropped, 12 kept, 4 executables, 4 debuginfo\n",
-        "",
-        0,
-    ),
-];
-
-/// A walk makes 20 calls: three looks at the roots, five readings, twelve looks. Twelve openings and
-/// 32 reads follow, and then the second walk; each call behind it fails.
-static BEHIND: [u64; 12] = [84, 85, 86, 87, 88, 89, 90, 91, 92, 93, 94, 95];
-
-#[test]
-fn a_second_scan_loads_nothing(rt: HostRuntime) {
-    let alloc = rt.alloc();
-    run_all(
-        &rt,
-        alloc,
-        told_reference(&rt, alloc, &BEHIND),
-        &SOUND,
-        &TWICE,
-    );
-}
-
 const FIVE: &[&str] = &["scan", "-d", "m", "/srv/debug", "/w/src"];
 
 /// The line of the scan after a stop at each call of the store: its opening, its rows, five puts.
@@ -142,27 +107,8 @@ fn a_scan_after_a_stop_at_each_store_call_has_the_five_rows(rt: HostRuntime) {
     }
 }
 
-/// What is said of the file of one byte, in a told world.
-static BYTE: [Run; 3] = [
-    Run(IDENT, b"plain not-elf\n", "", 3),
-    Run(
-        &["scan", "-d", "m", "/w"],
-        b"plain not-elf\nscan: 1 files, 1 added, 0 replaced, 0 dropped, 0 kept, \
-            0 executables, 0 debuginfo\n",
-        "",
-        0,
-    ),
-    Run(
-        SOURCES,
-        b"plain not-elf\nscan: 1 files, 1 added, 0 replaced, 0 dropped, 0 kept, \
-            0 executables, 0 debuginfo\n",
-        "dbgd: plain not-elf\n",
-        3,
-    ),
-];
-
 /// What is said of a file above the size limit.
-static LARGE: [Run; 3] = [
+static LARGE: [Run; 2] = [
     Run(IDENT, b"plain too-large\n", "", 3),
     Run(
         &["scan", "-d", "m", "/large"],
@@ -171,31 +117,17 @@ static LARGE: [Run; 3] = [
         "",
         0,
     ),
-    Run(
-        SOURCES,
-        b"plain too-large\nscan: 1 files, 1 added, 0 replaced, 0 dropped, 0 kept, \
-            0 executables, 0 debuginfo\n",
-        "dbgd: plain too-large\n",
-        3,
-    ),
 ];
 
 /// What is said where there is no memory for any file.
-static WANTS: [Run; 3] = [
+static WANTS: [Run; 2] = [
     Run(IDENT, b"", "dbgd: out of memory\n", 6),
     Run(SCAN, b"", "dbgd: out of memory\ndbgd: out of memory\n", 6),
-    Run(
-        SOURCES,
-        b"",
-        "dbgd: out of memory\ndbgd: out of memory\ndbgd: out of memory\n",
-        6,
-    ),
 ];
 
 #[test]
-fn other_trees_are_read_and_scanned(rt: HostRuntime) {
+fn a_file_that_is_too_large_and_want_of_memory_are_said(rt: HostRuntime) {
     let alloc = rt.alloc();
-    run_all(&rt, alloc, one_byte(&rt, alloc), &SOUND, &BYTE);
     run_all(&rt, alloc, Crowded::TooLarge, &SOUND, &LARGE);
     run_all(&rt, alloc, Crowded::NoMemory, &SOUND, &WANTS);
 }

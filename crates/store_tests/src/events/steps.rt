@@ -40,16 +40,15 @@ pub static SECOND_PASS: [Step; 4] = [
     Step::Gone("/b", 2),
 ];
 
-/// What is answered to the two passes, where no call fails.
-static ANSWERS: [&str; 7] = [
-    "Begun(Plan { files: 2, add: 2, replace: 0, drop: 0, keep: 0 })",
-    "Added",
-    "Added",
-    "Begun(Plan { files: 1, add: 0, replace: 1, drop: 1, keep: 0 })",
-    "Replaced",
-    "Dropped",
-    "Opened",
-];
+/// What is answered to the two passes, each with a line feed behind it.
+pub static ANSWERS: &str = "Begun(Plan { files: 2, add: 2, replace: 0, drop: 0, keep: 0 })
+Added
+Added
+Begun(Plan { files: 1, add: 0, replace: 1, drop: 1, keep: 0 })
+Replaced
+Dropped
+Opened
+";
 
 /// The listing of files of these paths and sizes.
 fn listing(rt: &impl Abort, alloc: Global, files: &[(&str, u64)]) -> Listing {
@@ -104,30 +103,6 @@ pub fn answers_text(rt: &impl Abort, alloc: Global, answers: &[EventAnswer]) -> 
     for answer in answers {
         let line = answer_text(rt, alloc, answer);
         text.push_str(line.as_str()).expect(rt, "memory");
-        text.push_str("\n").expect(rt, "memory");
-    }
-    text
-}
-
-/// What is answered to the two passes where the store stops at the event of this number: up to the
-/// next opening the index is broken then.
-fn answer_at(at: usize, answer: &'static str, stop: usize) -> &'static str {
-    if at < stop || answer == "Opened" {
-        answer
-    } else if at == stop {
-        "KeeperFault"
-    } else {
-        "Broken"
-    }
-}
-
-/// What is answered to the two passes where the store stops at the event of this number, each
-/// answer with a line feed behind it.
-pub fn wanted_text(rt: &impl Abort, alloc: Global, stop: usize) -> String {
-    let mut text = String::new(alloc);
-    for (at, answer) in ANSWERS.iter().enumerate() {
-        text.push_str(answer_at(at, *answer, stop))
-            .expect(rt, "memory");
         text.push_str("\n").expect(rt, "memory");
     }
     text

@@ -1,6 +1,6 @@
 //! What an opening and an adoption leave of a database that they refuse.
 
-use crate::rig::{after, not_adopted, not_opened};
+use crate::rig::{after, not_adopted, not_opened, number};
 use sqlite::{Connection, MemStore};
 use std::alloc::Global;
 use std::process::Abort;
@@ -99,31 +99,49 @@ fn shown(
     format!(in alloc; "{mode} {tables} {rows}").expect(rt, "memory")
 }
 
-/// The database before any opening.
-fn made(rt: &impl Abort, alloc: Global, case: &Refused) -> String {
-    shown(rt, alloc, &mut after(rt, alloc, case.sql), case.rows)
-}
-
-/// The database behind an opening that is refused.
-fn behind_opening(rt: &impl Abort, alloc: Global, case: &Refused) -> String {
-    let mut back = not_opened(rt, alloc, after(rt, alloc, case.sql));
-    shown(rt, alloc, &mut back, case.rows)
-}
-
-/// The database behind an adoption that is refused.
-fn behind_adoption(rt: &impl Abort, alloc: Global, case: &Refused) -> String {
-    let mut back = not_adopted(rt, after(rt, alloc, case.sql));
-    shown(rt, alloc, &mut back, case.rows)
+/// The database that these statements make shows the same, its rows by this query, before an opening
+/// and an adoption that are refused, and behind each of them.
+pub fn stays(rt: &impl Abort, alloc: Global, sql: &str, rows: &str) {
+    let was = shown(rt, alloc, &mut after(rt, alloc, sql), rows);
+    let mut back = not_opened(rt, alloc, after(rt, alloc, sql));
+    let opened = shown(rt, alloc, &mut back, rows);
+    assert!(rt; opened.as_str() == was.as_str(), "{opened}");
+    let mut back = not_adopted(rt, after(rt, alloc, sql));
+    let adopted = shown(rt, alloc, &mut back, rows);
+    assert!(rt; adopted.as_str() == was.as_str(), "{adopted}");
 }
 
 #[test]
 fn what_is_refused_stays_as_it_was(rt: HostRuntime) {
-    let alloc = rt.alloc();
     for case in REFUSED {
-        let was = made(&rt, alloc, case);
-        let opened = behind_opening(&rt, alloc, case);
-        assert!(rt; opened.as_str() == was.as_str(), "{opened}");
-        let adopted = behind_adoption(&rt, alloc, case);
-        assert!(rt; adopted.as_str() == was.as_str(), "{adopted}");
+        stays(&rt, rt.alloc(), case.sql, case.rows);
+    }
+}
+
+/// Numbers of the last opening behind which a store isn't opened and a connection isn't taken over, and
+/// that which a refused adoption leaves: it is raised, but for the last of all.
+static LEFT: [(i64, i64); 2] = [(-1, 0), (i64::MAX, i64::MAX)];
+
+#[test]
+fn a_number_that_does_not_rise_is_refused(rt: HostRuntime) {
+    let alloc = rt.alloc();
+    for (n, left) in LEFT {
+        let sql = format!(in alloc;
+            "CREATE TABLE kept(path TEXT PRIMARY KEY NOT NULL, body BLOB NOT NULL) STRICT;
+            CREATE TABLE epoch(one INTEGER PRIMARY KEY CHECK (one = 1), n INTEGER NOT NULL) STRICT;
+            INSERT INTO kept VALUES ('/b', x'02'), ('/a', x'01');
+            INSERT INTO epoch VALUES (1, {n})"
+        )
+        .expect(&rt, "memory");
+        let _ = not_opened(&rt, alloc, after(&rt, alloc, sql.as_str()));
+        let mut back = not_adopted(&rt, after(&rt, alloc, sql.as_str()));
+        assert!(rt;
+            number(&rt, &mut back, "SELECT n FROM epoch") == left,
+            "{n}"
+        );
+        assert!(rt;
+            number(&rt, &mut back, "SELECT count(*) FROM kept") == 2,
+            "{n}"
+        );
     }
 }

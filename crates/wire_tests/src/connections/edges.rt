@@ -1,6 +1,6 @@
 //! Requests at the edges: what is refused, and how connections end.
 
-use crate::connections::helpers::{Plan, compare, serve, whole};
+use crate::connections::helpers::{Plan, compare, whole};
 use crate::connections::texts::{no_routes, text_reply};
 use conn_server::ConnEnd;
 use std::alloc::Global;
@@ -127,12 +127,6 @@ fn a_head_that_is_too_large_is_refused(rt: HostRuntime) {
 }
 
 #[test]
-fn a_head_that_is_cut_off_has_no_reply(rt: HostRuntime) {
-    compare(&rt, rt.alloc(), &whole("GET / HT"), b"", 0, ConnEnd::Cut);
-    compare(&rt, rt.alloc(), &whole(""), b"", 0, ConnEnd::Closed);
-}
-
-#[test]
 fn two_requests_in_one_read_have_two_replies(rt: HostRuntime) {
     let wanted = no_routes(&rt, rt.alloc(), 1, "close");
     for cuts in [0, 38] {
@@ -148,37 +142,5 @@ fn two_requests_in_one_read_have_two_replies(rt: HostRuntime) {
             2,
             ConnEnd::Closed,
         );
-    }
-}
-
-#[test]
-fn the_hundredth_reply_closes(rt: HostRuntime) {
-    let alloc = rt.alloc();
-    let wanted = no_routes(&rt, alloc, 99, "close");
-    let mut input = repeated(&rt, alloc, "", "GET /a HTTP/1.1\r\n\r\n", 100);
-    input
-        .push_str("GET /b HTTP/1.1\r\n\r\n")
-        .expect(&rt, "memory");
-    let plan = whole(input.as_str());
-    compare(&rt, alloc, &plan, wanted.as_slice(), 100, ConnEnd::Limit);
-}
-
-/// Two requests of no route of which a read or a write fails, how many are answered, and the end.
-static FAULTS: [(&[u64], &[u64], usize, ConnEnd); 2] = [
-    (&[1], &[], 2, ConnEnd::ReadFault),
-    (&[], &[1], 1, ConnEnd::WriteFault),
-];
-
-#[test]
-fn a_failed_read_or_write_ends_the_connection(rt: HostRuntime) {
-    for (bad_reads, bad_writes, requests, wanted) in &FAULTS {
-        let plan = Plan {
-            bad_reads,
-            bad_writes,
-            ..whole("GET /a HTTP/1.1\r\n\r\nGET /b HTTP/1.1\r\n\r\n")
-        };
-        let (_, served, end) = serve(&rt, rt.alloc(), &plan);
-        assert!(rt; served == *requests, "{served}");
-        assert!(rt; end == *wanted, "{served}");
     }
 }

@@ -3,9 +3,9 @@
 ghost use Rattle.std.specs.Prelude.{◌≡◌, ◌<◌, All, IsSome};
 
 use crate::counters::shares::one_drawn;
-use conn_server::{ConnEnd, ConnReport, DoorEnd, serve_connection, serve_door};
+use conn_server::{Asked, ConnEnd, ConnReport, DoorEnd, Served, serve_connection, serve_door};
 use dbgd_metrics::{Book, Share};
-use federation::MemLink;
+use federation::{Link, MemLink};
 use http_wire::{Door, MemConn, Sink, Source};
 use row_types::{CanonPath, Truth};
 use sample_index::{Index, Lock, Shared, Token, empty_index, put_behind, reference_index};
@@ -62,12 +62,12 @@ fn no_links(alloc: Global) -> Vec<MemLink> {
 }
 
 /// Serves a connection by an index, a hand and links.
-fn serve_by<W: Truth + Send, N: Source + Sink, G: Gate, R: Abort + Wait + Sync>(
+fn serve_by<W: Truth + Send, L: Link, N: Source + Sink, G: Gate, R: Abort + Wait + Sync>(
     rt: &R,
     alloc: Global,
     index: Index<W>,
     hand: &mut MemTree<W>,
-    links: &mut [MemLink],
+    links: &mut [L],
     conn: &mut N,
     gate: &G,
 ) -> ConnReport {
@@ -139,22 +139,8 @@ fn hand(rt: &impl Abort, alloc: Global, bad_calls: &[u64]) -> MemTree<SampleWorl
     )
 }
 
-/// What comes of a connection by the reference tree, its index and links, past a gate, which gets the
+/// What comes of a connection by the reference tree, its index and no links, past a gate, which gets the
 /// number 7. The hand's calls of these numbers fail.
-pub fn report_linked<N: Source + Sink, G: Gate, R: Abort + Wait + Sync>(
-    rt: &R,
-    alloc: Global,
-    conn: &mut N,
-    links: &mut [MemLink],
-    bad_calls: &[u64],
-    gate: &G,
-) -> ConnReport {
-    let mut hand = hand(rt, alloc, bad_calls);
-    let index = reference_index(alloc).expect(rt, "an index");
-    serve_by(rt, alloc, index, &mut hand, links, conn, gate)
-}
-
-/// The same without links.
 pub fn report_of<N: Source + Sink, G: Gate, R: Abort + Wait + Sync>(
     rt: &R,
     alloc: Global,
@@ -163,7 +149,17 @@ pub fn report_of<N: Source + Sink, G: Gate, R: Abort + Wait + Sync>(
     gate: &G,
 ) -> ConnReport {
     let mut links = no_links(alloc);
-    report_linked(rt, alloc, conn, links.as_mut_slice(), bad_calls, gate)
+    let mut hand = hand(rt, alloc, bad_calls);
+    let index = reference_index(alloc).expect(rt, "an index");
+    serve_by(
+        rt,
+        alloc,
+        index,
+        &mut hand,
+        links.as_mut_slice(),
+        conn,
+        gate,
+    )
 }
 
 /// How the serving of a door ends by the reference tree and its index, past a gate. Its connections are
@@ -238,16 +234,6 @@ pub fn serve_through<N: Source + Sink, G: Gate, R: Abort + Wait + Sync>(
     report
 }
 
-/// What comes of a connection past no gate, where nothing fails: how many requests were answered, and the end.
-pub fn serve_on<N: Source + Sink, R: Abort + Wait + Sync>(
-    rt: &R,
-    alloc: Global,
-    conn: &mut N,
-) -> (usize, ConnEnd) {
-    let report = report_of(rt, alloc, conn, &[], &NoGate);
-    (report.served.len(), report.end)
-}
-
 /// What comes of a connection by an index and a hand without links, past no gate.
 pub fn report_by<W: Truth + Send, N: Source + Sink, R: Abort + Wait + Sync>(
     rt: &R,
@@ -261,11 +247,11 @@ pub fn report_by<W: Truth + Send, N: Source + Sink, R: Abort + Wait + Sync>(
 }
 
 /// What comes of a connection by an index without rows and links, past no gate.
-pub fn report_without_rows<N: Source + Sink, R: Abort + Wait + Sync>(
+pub fn report_without_rows<N: Source + Sink, L: Link, R: Abort + Wait + Sync>(
     rt: &R,
     alloc: Global,
     conn: &mut N,
-    links: &mut [MemLink],
+    links: &mut [L],
 ) -> ConnReport {
     let script = changed_file_script(alloc, 0).expect(rt, "memory");
     let mut hand = MemTree::new(alloc, script);
@@ -273,15 +259,17 @@ pub fn report_without_rows<N: Source + Sink, R: Abort + Wait + Sync>(
     serve_by(rt, alloc, index, &mut hand, links, conn, &NoGate)
 }
 
-/// Of a connection by an index without rows and without links, how many requests were answered, and the end.
-pub fn serve_without_rows<N: Source + Sink, R: Abort + Wait + Sync>(
-    rt: &R,
-    alloc: Global,
-    conn: &mut N,
-) -> (usize, ConnEnd) {
-    let mut links = no_links(alloc);
-    let report = report_without_rows(rt, alloc, conn, links.as_mut_slice());
-    (report.served.len(), report.end)
+/// Each request for a file is told with the length of the index's log, which has a line for each of 12
+/// rows, and what asks for none with 0.
+fn are_told(rt: &impl Abort, served: &[Served]) {
+    for told in served {
+        let log = if matches!(&told.asked, Asked::Route(_)) {
+            12
+        } else {
+            0
+        };
+        assert!(rt; told.gen_ == log, "{}", told.gen_);
+    }
 }
 
 /// The connection of a plan, served, how many requests were answered, and the end.
@@ -292,6 +280,7 @@ pub fn serve<R: Abort + Wait + Sync>(
 ) -> (MemConn, usize, ConnEnd) {
     let mut conn = conn(rt, alloc, plan);
     let report = report_of(rt, alloc, &mut conn, plan.bad_calls, &NoGate);
+    are_told(rt, report.served.as_slice());
     (conn, report.served.len(), report.end)
 }
 
@@ -306,6 +295,7 @@ pub fn compare<R: Abort + Wait + Sync>(
 ) {
     let (conn, served, end) = serve(rt, alloc, plan);
     assert!(rt; conn.written() == Some(wanted), "{}", plan.input);
+    assert!(rt; conn.calls().is_some(), "{}", plan.input);
     assert!(rt; served == requests, "{}", plan.input);
     assert!(rt; end == wanted_end, "{}", plan.input);
 }

@@ -36,29 +36,10 @@ dbgd_rows_dropped_total 5
 dbgd_passes_total 1
 ";
 
-/// The page after 20,000 requests of 3 bytes each.
-pub(crate) static TWO_THREADS: &str = "dbgd_requests_total{route=\"section\",status=\"200\"} 20000
-dbgd_body_bytes_total 60000
-dbgd_rows_added_total 0
-dbgd_rows_replaced_total 0
-dbgd_rows_dropped_total 0
-dbgd_passes_total 0
-";
-
 /// The page after 20,000 requests of 3 bytes and 20,000 of 4.
 pub(crate) static FOUR_THREADS: &str = "dbgd_requests_total{route=\"source\",status=\"200\"} 20000
 dbgd_requests_total{route=\"source\",status=\"503\"} 20000
 dbgd_body_bytes_total 140000
-dbgd_rows_added_total 0
-dbgd_rows_replaced_total 0
-dbgd_rows_dropped_total 0
-dbgd_passes_total 0
-";
-
-/// The page of two shares whose bytes are at their end, twice 2^64 - 1.
-pub(crate) static AT_THE_END: &str = "dbgd_requests_total{route=\"other\",status=\"200\"} 2
-dbgd_requests_total{route=\"other\",status=\"405\"} 1
-dbgd_body_bytes_total 36893488147419103230
 dbgd_rows_added_total 0
 dbgd_rows_replaced_total 0
 dbgd_rows_dropped_total 0

@@ -47,23 +47,6 @@ pub fn drawn_pair<R: Wait>(rt: &R, book: &Book, share: Share) -> Option<(Share, 
     Some((first, second))
 }
 
-/// A share with a row, and one that was split off behind it and has another, if there were two left.
-pub fn drawn_behind<R: Wait>(rt: &R, book: &Book, share: Share) -> Option<(Share, Share)>
-    requires book { share.book ≡ book.now.id }
-    requires no_row { share.row ≡ None }
-    ensures { IfSome result (λ s. (s.0.book ≡ book.now.id) × IsSome s.0.row
-        × (s.1.book ≡ book.now.id) × IsSome s.1.row) }
-{
-    let first = drawn(rt, book, share)?;
-    match book.split(first) {
-        ShareSplit::Two(first, second) => {
-            let second = drawn(rt, book, second)?;
-            Some((first, second))
-        }
-        ShareSplit::OutOfMemory(_) => unreachable!(),
-    }
-}
-
 /// A table of so many rows, and a share that has one of them.
 pub fn one_drawn<R: Abort + Wait>(rt: &R, alloc: Global, rows: u64) -> (Book, Share)
     requires { (1 ≤ rows) × (rows ≤ 65) }
@@ -72,16 +55,6 @@ pub fn one_drawn<R: Abort + Wait>(rt: &R, alloc: Global, rows: u64) -> (Book, Sh
     let (book, share) = Book::make(alloc, rows).expect(rt, "memory");
     let share = drawn(rt, &book, share).expect(rt, "a row");
     (book, share)
-}
-
-/// A table of two rows, and the shares that have them.
-pub fn two_drawn<R: Abort + Wait>(rt: &R, alloc: Global) -> (Book, Share, Share)
-    ensures first { (result.1.book ≡ result.0.id) × IsSome result.1.row }
-    ensures second { (result.2.book ≡ result.0.id) × IsSome result.2.row }
-{
-    let (book, share) = Book::make(alloc, 2).expect(rt, "memory");
-    let (first, second) = drawn_pair(rt, &book, share).expect(rt, "two rows");
-    (book, first, second)
 }
 
 /// A request to count.

@@ -1,11 +1,11 @@
 //! What two and four threads count.
 
-ghost use Rattle.std.specs.Prelude.{◌≡◌, IsSome, None};
+ghost use Rattle.std.specs.Prelude.{◌≡◌, IsSome};
 ghost use Rattle.std.specs.Thread.{IsSync};
 ghost use Rattle.dbgd_metrics.specs.Counts.{HasReplyStatus};
 
-use crate::counters::expected::{FOUR_THREADS, TWO_THREADS};
-use crate::counters::shares::{compare, count_often, cut, drawn_pair, request, two_drawn};
+use crate::counters::expected::FOUR_THREADS;
+use crate::counters::shares::{compare, count_often, cut, drawn_pair, request};
 use dbgd_metrics::{Book, Count, RouteName, Share};
 use std::thread::{Threads, join};
 
@@ -68,15 +68,6 @@ fn count_by_four<R: Threads + Sync>(
         { count_by_two(rt, book, third, fourth, other) },
     );
     (left.0, right.0)
-}
-
-#[test]
-fn the_totals_are_what_two_threads_counted(rt: HostRuntime) {
-    let (book, first, second) = two_drawn(&rt, rt.alloc());
-    let what = request(RouteName::Section, 200, 3);
-    let (mut first, mut second) = count_by_two(&rt, &book, first, second, what);
-    compare(&rt, rt.alloc(), &book, &mut first, TWO_THREADS);
-    compare(&rt, rt.alloc(), &book, &mut second, TWO_THREADS);
 }
 
 #[test]

@@ -88,33 +88,3 @@ fn a_route_is_printed_and_its_target_says_it_again(rt: HostRuntime) {
         assert!(rt; says_itself(rt.alloc(), &route), "of {wanted}");
     }
 }
-
-/// Names that no target can ask for, their targets, and the fault of these.
-static NOT_ASKED: [(&[u8], &str, RouteFault); 3] = [
-    (b"", "/buildid/ab0c/section/", RouteFault::NoRoute),
-    (b"\xff", "/buildid/ab0c/section/%FF", RouteFault::BadEscape),
-    (
-        b"a\x00",
-        "/buildid/ab0c/section/a%00",
-        RouteFault::BadEscape,
-    ),
-];
-
-// The bytes of a section's name that no target can ask for are printed all the same.
-#[test]
-fn a_name_that_no_target_asks_for_is_printed(rt: HostRuntime) {
-    for (name, wanted, fault) in &NOT_ASKED {
-        let route = route(&rt, rt.alloc(), "section", name);
-        assert!(rt; is_printed(&rt, rt.alloc(), &route, wanted), "{wanted}");
-        let said = said_again(rt.alloc(), &route).err();
-        assert!(rt; said == Some(*fault), "of {wanted}");
-    }
-}
-
-#[test]
-fn a_name_gives_its_bytes_back(rt: HostRuntime) {
-    let bytes = Vec::from_slice(rt.alloc(), b".text").expect(&rt, "memory");
-    let name = SectionName::new(bytes);
-    assert!(rt; name.bytes() == b".text".as_slice());
-    assert!(rt; name.into_bytes().as_slice() == b".text".as_slice());
-}

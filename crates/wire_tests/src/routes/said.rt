@@ -3,7 +3,7 @@
 use row_types::BuildId;
 use std::alloc::{AllocError, Global};
 use std::process::Abort;
-use webapi_routes::{Route, RouteFault, parse};
+use webapi_routes::{Route, parse};
 
 /// A target, and what it says.
 #[derive(Clone, Copy)]
@@ -164,49 +164,5 @@ fn a_target_says_a_route_or_its_first_fault(rt: HostRuntime) {
             let line = line_of(&rt, rt.alloc(), target);
             assert!(rt; line.as_str() == *wanted, "{line} for {wanted}");
         }
-    }
-}
-
-/// A target: a front, so many times a byte, and a back.
-fn long_target(rt: &impl Abort, alloc: Global, front: &[u8], times: usize, back: &[u8]) -> Vec<u8> {
-    let mut target = Vec::from_slice(alloc, front).expect(rt, "memory");
-    for _ in 0..times {
-        target.push(b'a').expect(rt, "memory");
-    }
-    target.extend_from_slice(back).expect(rt, "memory");
-    target
-}
-
-/// The front of a target, how many times a byte follows, the back, and the fault.
-static LIMITS: [(&[u8], usize, &[u8], Option<RouteFault>); 11] = [
-    (b"/buildid/", 2, b"/executable", Some(RouteFault::BadId)),
-    (b"/buildid/", 4, b"/executable", None),
-    (b"/buildid/", 127, b"/executable", Some(RouteFault::BadId)),
-    (b"/buildid/", 128, b"/executable", None),
-    (b"/buildid/", 130, b"/executable", Some(RouteFault::BadId)),
-    (b"/buildid/abcd/source/", 4095, b"", None),
-    (
-        b"/buildid/abcd/source/",
-        4096,
-        b"",
-        Some(RouteFault::BadPath),
-    ),
-    (b"/buildid/abcd/source//../", 4091, b"", None),
-    (
-        b"/buildid/abcd/source//../",
-        4092,
-        b"",
-        Some(RouteFault::BadPath),
-    ),
-    (b"/buildid/abc/source/", 4096, b"", Some(RouteFault::BadId)),
-    (b"/buildid/abcd/section/", 4096, b"", None),
-];
-
-#[test]
-fn an_id_has_4_to_128_digits_and_a_path_up_to_4096_bytes(rt: HostRuntime) {
-    for (front, times, back, wanted) in &LIMITS {
-        let target = long_target(&rt, rt.alloc(), front, *times, back);
-        let fault = parse(rt.alloc(), target.as_slice()).err();
-        assert!(rt; fault == *wanted, "{times} bytes");
     }
 }

@@ -4,7 +4,6 @@ ghost use Rattle.std.specs.Prelude.{◌<◌, All};
 
 use http_wire::{Head, HeadAnswer, HeadReader, MemConn};
 use std::alloc::Global;
-use std::fmt::Write;
 use std::process::Abort;
 
 /// Bytes, and what a reader answers of them up to Closed, a line an answer.
@@ -12,7 +11,7 @@ use std::process::Abort;
 struct Case(&'static [u8], &'static str);
 
 /// Heads as they come, requests that are cut or bad, and what fields say.
-static CASES: [Case; 13] = [
+static CASES: [Case; 19] = [
     Case(b"", "closed\n"),
     Case(b"GET /a HTTP/1.1\r\n\r\n", "GET /a 1\nclosed\n"),
     Case(
@@ -22,6 +21,19 @@ static CASES: [Case; 13] = [
     Case(b"GET / HT", "Cut { len: 8 }\nclosed\n"),
     Case(b"G(T / HTTP/1.1", "Cut { len: 14 }\nclosed\n"),
     Case(b"G(T / HTTP/1.1\r\n", "Bad { len: 16 }\nclosed\n"),
+    // Bytes that can be no head are judged once a line feed came, alone and behind a head.
+    Case(b"\x01\x02\x03", "Cut { len: 3 }\nclosed\n"),
+    Case(
+        b"GET /a HTTP/1.1\r\n\r\n\x01\x02\x03",
+        "GET /a 1\nCut { len: 3 }\nclosed\n",
+    ),
+    Case(b"\x01\x02\x03\n", "Bad { len: 4 }\nclosed\n"),
+    Case(
+        b"GET /a HTTP/1.1\r\n\r\n\x01\x02\x03\n",
+        "GET /a 1\nBad { len: 4 }\nclosed\n",
+    ),
+    Case(b"GET / HTTP/1.1\r\n\x01: x", "Cut { len: 20 }\nclosed\n"),
+    Case(b"GET / HTTP/1.1\r\n\x01: x\n", "Bad { len: 21 }\nclosed\n"),
     Case(
         b"GET / HTTP/1.1\r\nConnection: a,\t Close ,b\r\n\r\n",
         "GET / 1 close\nclosed\n",
@@ -182,13 +194,6 @@ fn heads_have_limits(rt: HostRuntime) {
         let input = bytes_of(&rt, rt.alloc(), front, piece, *times, back);
         compare(&rt, rt.alloc(), input.as_slice(), wanted);
     }
-}
-
-#[test]
-fn a_read_that_fails_ends_the_reader(rt: HostRuntime) {
-    let input = b"GET /a HTTP/1.1\r\n\r\nGET /b HTTP/1.1\r\n\r\n";
-    let text = text_of(&rt, rt.alloc(), input, 100, &[21]);
-    assert!(rt; text.as_str() == "GET /a 1\nfault\nclosed\n", "{text}");
 }
 
 #[test]

@@ -1,9 +1,9 @@
 //! The bytes of replies.
 
-ghost use Rattle.std.specs.Prelude.{◌<◌, IsTrue};
+ghost use Rattle.std.specs.Prelude.{IsTrue};
 ghost use Rattle.http_wire.specs.Reply.{IsStatus};
 
-use http_wire::{MemSink, ReplyFault, ReplyHead, Sink, Stream, WriteAnswer, write_reply};
+use http_wire::{MemSink, ReplyFault, ReplyHead, Sink, write_reply};
 use row_types::CanonPath;
 use sample_rows::path;
 use std::alloc::Global;
@@ -145,29 +145,6 @@ static CASES: [Case<'static>; 11] = [
     ),
 ];
 
-/// A sink in memory that takes one byte at a time.
-#[derive(Drop)]
-pub struct Slow {
-    pub sink: MemSink,
-}
-
-impl Stream for Slow {
-    ghost use Rattle.http_wire.specs.MemSink.{shown_sink};
-
-    ghost shows = { λ s. shown_sink s.sink };
-}
-
-impl Sink for Slow {
-    fn write(&mut self, bytes: &[u8]) -> WriteAnswer {
-        self.sink.write(&bytes[..1])
-    }
-}
-
-/// A sink that fails at one write.
-pub fn sink(rt: &impl Abort, alloc: Global, bad_write: u64) -> MemSink {
-    MemSink::new(alloc, vec![in alloc; bad_write].expect(rt, "memory"))
-}
-
 /// Whether a status is one of replies.
 fn is_status(status: u16) -> bool
     ensures { IsTrue result → IsStatus status }
@@ -184,10 +161,10 @@ pub fn file_of(rt: &impl Abort, alloc: Global, text: &str) -> Option<CanonPath> 
 }
 
 /// Writes the reply of a case.
-fn reply<S: Sink>(
+fn reply(
     rt: &impl Abort,
     alloc: Global,
-    sink: &mut S,
+    sink: &mut MemSink,
     case: &Case<'_>,
     with_body: bool,
 ) -> Result<(), ReplyFault> {
@@ -203,12 +180,16 @@ fn reply<S: Sink>(
     write_reply(alloc, sink, &head, body, with_body)
 }
 
-/// The reply of a case, with its body or without, is these bytes.
+/// The reply of a case, with its body or without, is these bytes, which go in one write: a second one
+/// would fail.
 fn compare(rt: &impl Abort, alloc: Global, case: &Case<'_>, with_body: bool, wanted: &[u8]) {
-    let mut sink = sink(rt, alloc, 1);
+    let second = vec![in alloc; 1].expect(rt, "memory");
+    let mut sink = MemSink::new(alloc, second);
     let answer = reply(rt, alloc, &mut sink, case, with_body);
     assert!(rt; answer == Ok(()), "{wanted:?}");
     assert!(rt; sink.written() == Some(wanted), "{wanted:?}");
+    let calls = sink.calls().expect(rt, "a sink in memory tells them");
+    assert!(rt; calls.len() == 1, "{wanted:?}");
 }
 
 #[test]
@@ -218,34 +199,4 @@ fn replies_have_these_bytes(rt: HostRuntime) {
         let head_len = case.5.len().saturating_sub(case.4.len());
         compare(&rt, rt.alloc(), case, false, &case.5[..head_len]);
     }
-}
-
-/// A case's reply, byte by byte, is cut where the write of this number fails.
-fn is_cut_at(rt: &impl Abort, alloc: Global, case: &Case<'_>, place: usize) {
-    let mut slow = Slow {
-        sink: sink(rt, alloc, place as u64),
-    };
-    let answer = reply(rt, alloc, &mut slow, case, true);
-    assert!(rt; answer == Err(ReplyFault::WriteFault), "at {place}");
-    assert!(rt; slow.sink.written() == case.5.get(..place), "at {place}");
-}
-
-/// A large body goes in a second write, of which nothing is written where it fails.
-fn is_cut_behind_the_head(rt: &impl Abort, alloc: Global, body: &[u8]) {
-    let mut sink = sink(rt, alloc, 1);
-    let case = Case(200, false, "", false, body, b"");
-    let answer = reply(rt, alloc, &mut sink, &case, true);
-    assert!(rt; answer == Err(ReplyFault::WriteFault));
-    let written = sink.written().expect(rt, "told");
-    assert!(rt; written.ends_with(b"\r\n\r\n"));
-}
-
-#[test]
-fn a_reply_is_cut_where_a_write_fails(rt: HostRuntime) {
-    let case = &CASES[0];
-    for place in 0..case.5.len() {
-        is_cut_at(&rt, rt.alloc(), case, place);
-    }
-    let large = vec![in rt.alloc(); b'x'; 5000].expect(&rt, "memory");
-    is_cut_behind_the_head(&rt, rt.alloc(), large.as_slice());
 }

@@ -101,7 +101,7 @@ Arguments:
 
 Options:
   -d, --database <FILE>     The store of the index; it is made where it isn't there
-  -c, --concurrency <N>     Files read, and connections served, at a time, 1 to 64 [default: 4]
+  -c, --concurrency <N>     Files read, and requests answered, at a time, 1 to 64 [default: 4]
   -p, --port <PORT>         The port, 1 to 65535, on which requests are answered [default: 8002]
   -t, --rescan-time <SECS>  Seconds between scans, 0 to 86400; 0 for one scan alone [default: 300]
   -F, --scan-file-dir       Changes nothing: files in folders are what is scanned
@@ -119,10 +119,15 @@ servers of --upstream, in order.
 
 Prints on standard output that it serves, on which port and with how many workers, and then a line of
 counts for each scan; a scan that is cut short says why on standard error, and the next one goes on.
+Where the store takes a row no more, as on a full disk, each scan from then on says `dbgd: fault store`
+and finds nothing new, dbgd_passes_total at /metrics stands still, and requests are answered by the
+rows that stand: mend the cause, and start the server again, which it doesn't do by itself.
+
 It runs until a signal ends it: each row is on the disk before the next one is kept, so that at most
 the one in flight is lost. While it runs nothing else can open the store. A connection is ended
-after 100 requests, and where nothing comes from the client for 5 seconds or it takes nothing for
-30. DEBUGINFOD_URLS tells debuggers where the server is.
+after 100 requests in a row, where it is idle for 75 seconds, where a request isn't whole 5 seconds
+after it began, and where the client takes nothing for 30. DEBUGINFOD_URLS tells debuggers where the
+server is.
 
 Exit status: 0 done, 1 a call of the store, the port or the output failed, 2 words that can't be read,
 5 too many rows, 6 memory was refused, 7 a value that is no row.
