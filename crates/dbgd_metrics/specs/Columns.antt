@@ -1,4 +1,4 @@
--- What the seat notes while the totals are added up.
+-- What the seat notes while the totals are added up (this crate's bookkeeping, which no public clause cites).
 use Rattle.std.specs.Prelude.{◌≡◌, ℕ, ◌<◌, ◌≤◌, List, length, slice_index, map, Some, All, sum}
 use Rattle.dbgd_metrics.specs.Rule.{CountToken, Looked}
 use Rattle.dbgd_metrics.specs.Totals.{column_loads, found_at, page_loads}

@@ -1,4 +1,4 @@
--- What a count does to the numbers of a share. This is the project's own rule.
+-- What a count does to the numbers of a share (this project's rule).
 use Rattle.std.specs.Prelude.{◌≡◌, ℕ, ◌+◌, ◌^◌, List, Bool, true, false, ◌&&◌, nat_lt}
 use Rattle.dbgd_metrics.specs.declared.number.Number.{Number}
 use Rattle.dbgd_metrics.specs.declared.number.Number.TheVariants.{Requests, Bytes, Added, Replaced, Dropped, Passes}

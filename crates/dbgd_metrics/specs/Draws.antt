@@ -1,4 +1,5 @@
--- How a share draws its row: it loads the number of drawn rows until it takes the next one, or finds that none is left.
+-- How a share draws its row (this project's rule): it loads the number of drawn rows until it takes the next one, or finds that none is
+-- left.
 use Rattle.std.specs.Prelude.{◌≡◌, ℕ, ◌+◌, ◌<◌, ◌≤◌, List, [], ◌∷◌, ◌++◌, Some, All}
 use Rattle.dbgd_metrics.specs.declared.view.Load.{Load}
 use Rattle.dbgd_metrics.specs.declared.share.Drawn.{Drawn}
@@ -42,7 +43,8 @@ Draws rows old (drawn new) = TakesRow rows old new
 Draws rows old (full new) = FindsNoRow rows old new
 
 -- a share that knows the row of another to be drawn draws a row behind it, so that no two of them have one row: each that drew
--- knows its own row to be drawn, and each that a split gives knows what the share knew that it is of
+-- knows its own row to be drawn, and each that a split gives knows what the share knew that it is of. A call is handed one share,
+-- and can't speak of all others
 pub record DrawsApart : Type 0 where
   pub behind : (rows : ℕ) (one old new : ShareFacts) (row next : ℕ) → one.row ≡ Some row → row < one.drawn → one.drawn ≤ old.drawn
       → TakesRow rows old new → new.row ≡ Some next → row < next

@@ -1,4 +1,4 @@
--- The numbers that are counted, by name, and where each stands in a row. This is the project's own order.
+-- The numbers that are counted, by name, and where each stands in a row (this project's order).
 use Rattle.std.specs.Prelude.{ℕ, ◌+◌, ◌*◌, ◌<◌, ◌==◌, List, [], ◌∷◌, length, slice_index, slice_set, replicate, if◌then◌else◌}
 use Rattle.dbgd_metrics.specs.declared.number.RouteName.{RouteName}
 use Rattle.dbgd_metrics.specs.declared.number.RouteName.TheVariants.{Debuginfo, Executable, Source, Section, Metrics, Other}

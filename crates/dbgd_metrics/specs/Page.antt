@@ -1,4 +1,4 @@
--- The text of the metrics page, in the form that Prometheus reads: a name, its labels, a space and a number.
+-- The text of the metrics page (this project's format, as Prometheus reads it): a name, its labels, a space and a number.
 use Rattle.std.specs.Prelude.{ℕ, ◌==◌, List, [], ◌++◌, codes, decimal, if◌then◌else◌, flat_map}
 use Rattle.dbgd_metrics.specs.declared.number.RouteName.{RouteName}
 use Rattle.dbgd_metrics.specs.declared.number.RouteName.TheVariants.{Debuginfo, Executable, Source, Section, Metrics, Other}

@@ -1,5 +1,5 @@
--- The rule of the counters' table, and what each kind of step on it tells. This is the project's own rule.
--- Word 0 is the number of rows that were drawn; behind it lie the rows, a word for each number.
+-- What the counters' table keeps, and what each kind of step on it tells (this project's rule). Word 0 is the number of rows that were
+-- drawn; behind it lie the rows, a word for each number.
 use Rattle.std.specs.Prelude.{◌≡◌, ◌≢◌, ℕ, ◌+◌, ◌*◌, ◌<◌, ◌≤◌, List, [], ◌∷◌, ◌++◌, length, slice_index, slice_set, Some, None}
 use mathlib.Core.Option.{some}
 use lib.ListN.{get_elem?}

@@ -1,4 +1,4 @@
--- What a share shows of its seat, and what it keeps of it.
+-- What a share shows of its seat, and what it keeps of it (this project's rule).
 use Rattle.std.specs.Prelude.{◌≡◌, ℕ, [], Bool, false, Option, MatchOption}
 use Rattle.dbgd_metrics.specs.Numbers.{zeros}
 use Rattle.dbgd_metrics.specs.Rule.{CountToken, IsRowInside}

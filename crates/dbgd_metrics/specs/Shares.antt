@@ -1,4 +1,4 @@
--- What contracts see of the counter table and of its shares, and what a new share is.
+-- What contracts see of the counter table and of its shares, and what a new share is (this project's rule).
 use Rattle.std.specs.Prelude.{◌≡◌, ℕ, List, Bool, false, Option, Some, None}
 use Rattle.atomic_table.specs.Seated.{TableId}
 use Rattle.dbgd_metrics.specs.declared.view.Load.{Load}

@@ -1,4 +1,4 @@
--- What a split gives.
+-- What a split of a share gives (this project's rule).
 use Rattle.std.specs.Prelude.{◌≡◌, None}
 use Rattle.dbgd_metrics.specs.declared.share.ShareSplit.{ShareSplit}
 use Rattle.dbgd_metrics.specs.declared.share.ShareSplit.TheVariants.{Two, OutOfMemory}

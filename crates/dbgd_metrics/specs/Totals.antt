@@ -1,4 +1,4 @@
--- The totals of a page: what was loaded for them, and what they add up. This is the project's own rule.
+-- The totals of a page (this project's rule): what was loaded for them, and what they add up.
 use Rattle.std.specs.Prelude.{◌≡◌, ℕ, ◌+◌, ◌≤◌, List, [], ◌∷◌, ◌++◌, map, length, slice_index, slice_index_or, Some, All, sum}
 use Rattle.dbgd_metrics.specs.declared.number.Number.{Number}
 use Rattle.dbgd_metrics.specs.declared.view.Load.{Load}
@@ -21,7 +21,8 @@ page_loads place (column ∷ columns) = column_loads place 0 column ++ page_load
 abbrev pub found_at : List (List ℕ) → ℕ → ℕ → ℕ
 found_at columns place row = slice_index (slice_index_or columns place []) row
 
--- every word of every row was loaded once, and found these numbers
+-- every word of every row was loaded once, and found these numbers. These are the loads that the share notes: without them the
+-- totals of its own row alone would be a page, by some numbers in the other rows
 pub record Loads (rows : ℕ) (columns : List (List ℕ)) (old new : ShareFacts) : Type 0 where
   pub all : length columns ≡ count_of_numbers
   pub each : All (λ column. length column ≡ rows) columns

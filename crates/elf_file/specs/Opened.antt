@@ -1,4 +1,4 @@
--- A file whose section table can be read, of which parts are there.
+-- What contracts see of a file whose section table can be read, and of which parts are there (this project's rule).
 use Rattle.std.specs.Prelude.{◌≡◌, ℕ, List, Option, Ok}
 use Rattle.file_formats.specs.Table.{section_table}
 use Rattle.file_formats.specs.declared.header.SectionTable.{SectionTable}

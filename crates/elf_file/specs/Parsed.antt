@@ -1,4 +1,4 @@
--- A file whose section table can be read.
+-- What contracts see of a file whose section table can be read, by its bytes (this project's rule).
 use Rattle.std.specs.Prelude.{ℕ, ◌+◌, ◌≤◌, List, length}
 use Rattle.file_formats.specs.declared.header.SectionTable.{SectionTable}
 use Rattle.file_picture.specs.Agrees.{filled_with_zeros}

@@ -51,6 +51,7 @@ StopsBefore v (stop.Fault fault) = FailsTests v fault
 abbrev pub zero_of : List ℕ → Head → Option SectionHeader
 zero_of b h = if asks_zero h && has_section_zero b h then Some (section_zero b h) else None
 
+-- this is it, and the windows up to section 0's header are there
 pub record HasZero (v : PictureFacts) (h : Head) (zero : Option SectionHeader) : Type 0 where
   pub is : zero ≡ zero_of (filled_with_zeros v) h
   pub all : AllHere v 2

@@ -1,4 +1,4 @@
--- What is read of a note.
+-- What is read of a note (ELF gABI, chapter 5, "Note Section"): its fields, and the places of its parts.
 use Rattle.std.specs.Prelude.{◌≡◌, ℕ, ◌+◌, ◌≤◌, ◌<◌}
 use Rattle.file_formats.specs.declared.notes.TheConstants.{NHDR_SIZE}
 use Rattle.elf_notes.specs.declared.notes.Note.{Note}

@@ -30,8 +30,8 @@ pub data ReadFault : Type 0 where
 abbrev pub Read : Type 0 → Type 0
 Read A = Result (At A) ReadFault
 
--- what is read with the value, unless there is a fault
 infixl 10 ◌>>=◌
+-- what is read with the value, unless there is a fault
 abbrev pub ◌>>=◌ : {A B : Type 0} → Read A → (At A → Read B) → Read B
 (Ok x) >>= f = f x
 (Err e) >>= f = Err e

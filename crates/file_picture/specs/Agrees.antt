@@ -10,7 +10,8 @@ pub record AgreesWithPicture (b : List ℕ) (p : PictureFacts) : Type 0 where
   pub sized : length b ≡ p.size
   pub same : (place x : ℕ) → known_byte p place ≡ Some x → slice_index b place ≡ x
 
--- the picture with 0 at each place whose byte isn't known: one of these files
+-- the picture with 0 at each place whose byte isn't known: one of these files. A reader of a picture is described by it alone,
+-- since what is known of it holds of each of them by the laws on windows
 abbrev pub filled_with_zeros : PictureFacts → List ℕ
 filled_with_zeros p = map (λ place. unwrap_or (known_byte p place) 0) (range_with_len 0 p.size)
 

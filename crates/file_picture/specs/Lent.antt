@@ -1,4 +1,4 @@
--- What a view lends from.
+-- What a view lends from (this project's rule): a whole file, or a picture.
 use Rattle.file_picture.specs.declared.view.Lent.{Lent}
 use Rattle.file_picture.specs.declared.view.Lent.TheVariants.{Whole, Part}
 use Rattle.file_picture.specs.Picture.{PictureFacts}

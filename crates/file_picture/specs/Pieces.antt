@@ -1,4 +1,4 @@
--- Pieces of a picture, one by one.
+-- Pieces of a picture, one by one (this crate's bookkeeping, which no public clause cites).
 use Rattle.std.specs.Prelude.{◌≡◌, ◌≢◌, ◌⊎◌, MatchBool, Bool, Some, All, ℕ, ◌+◌, ◌-◌, ◌<◌, ◌≤◌, ◌^◌, List, [], ◌∷◌, ◌++◌, true, is_some, length, take, drop, slice_index, slice_index_or, slice_set}
 use Rattle.file_picture.specs.Picture.{PieceFacts, PictureFacts, ArePiecesApart, AreFree, IsPicture, byte_among, piece_end, sum_of}
 

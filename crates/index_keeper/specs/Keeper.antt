@@ -28,7 +28,8 @@ pub record IsMade (edit : EditFacts) (before after : ShownKeeper) : Type 0 where
   pub changed : after.tables ≡ edited before.tables edit
   pub settled : AreTablesSettled after
 
--- the tables are those before the change or those after it, and so is what a crash now may leave
+-- the tables are those before the change or those after it, and so is what a crash now may leave. That a crash may leave the tables
+-- after it is said of the keeper in memory alone: one whose failed change is surely undone leaves those before it and nothing else
 pub record IsTorn (edit : EditFacts) (before after : ShownKeeper) : Type 0 where
   pub now : after.images after.tables
   pub without : after.images before.tables

@@ -1,5 +1,4 @@
--- The rule of the lock's table, and what each kind of step on it tells. This is the project's own
--- rule.
+-- What the lock's table keeps, and what each kind of step on it tells (this project's rule).
 use Rattle.std.specs.Prelude.{◌≡◌, ◌≢◌, ◌⊎◌, ℕ, ◌+◌, ◌*◌, List, [], ◌∷◌, length, Option, Some, None}
 use mathlib.Core.List.{IsPrefix}
 use mathlib.Core.Option.{some, none}

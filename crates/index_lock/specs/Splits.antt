@@ -1,4 +1,4 @@
--- What a split gives.
+-- What a split of a token gives (this project's rule).
 use Rattle.std.specs.Prelude.{◌≡◌}
 use Rattle.index_lock.specs.Tokens.{SeatFacts}
 use Rattle.index_lock.specs.declared.seat.Split.{Split}

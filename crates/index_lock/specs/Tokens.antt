@@ -1,4 +1,4 @@
--- What contracts see of the tokens of a lock.
+-- What contracts see of the tokens of a lock (this project's rule).
 use Rattle.std.specs.Prelude.{◌≡◌, List, length, nat_lt, if◌then◌else◌}
 use mathlib.Core.List.{IsPrefix}
 use Rattle.atomic_table.specs.Seated.{TableId}

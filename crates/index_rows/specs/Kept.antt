@@ -1,4 +1,5 @@
--- How the rows are kept: in slots by path, beside a list of changes, with room for what is prepared.
+-- How the rows are kept (this crate's bookkeeping, which no public clause cites): in slots by path, beside a list of
+-- changes, with room for what is prepared.
 use Rattle.row_types.specs.Row.{RowFacts}
 use Rattle.index_rows.specs.Rows.{RowsFacts, IsIndex}
 use Rattle.index_rows.specs.declared.prepared.Prepared.{Prepared}

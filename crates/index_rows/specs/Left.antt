@@ -1,4 +1,4 @@
--- Which rows an iterator lends.
+-- Which rows an iterator lends (this project's rule).
 use Rattle.std.specs.Prelude.{Bool, true, false, List, filter, Option, None, Some}
 use Rattle.row_types.specs.Row.{RowFacts}
 use Rattle.row_types.specs.declared.identity.Kind.{Kind}

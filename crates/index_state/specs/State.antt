@@ -50,7 +50,8 @@ abbrev pub lasting : Bool → List Change → List Change
 lasting false log = log
 lasting true log = take (length log - 1) log
 
--- the changes of the store by the opening, where each change since then made one more
+-- the changes of the store by the opening, where each change since then made one more; they are cut from the keeper's own list, and
+-- not kept beside it
 abbrev pub made_first : ℕ → Option (List EditFacts) → Option (List EditFacts)
 made_first since made = option_map (λ edits. take (length edits - since) edits) made
 

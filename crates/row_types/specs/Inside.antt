@@ -1,4 +1,4 @@
--- The fields of a build-id, from its bytes alone. The lemmas stand here since the invariant's law cites them.
+-- The fields of a build-id, from its bytes alone (this project's rule). The lemmas stand here since the invariant's law cites them.
 use Rattle.std.specs.Prelude.{◌≡◌, ℕ, ◌+◌, ◌-◌, ◌≤◌, List, length, take, replicate, max}
 use Rattle.std.proofs.Common.{sym, ◌∙◌, ap, subst, length-append}
 use Rattle.std.proofs.Math.Nat.{add_comm, le-max_left, le_trans, sub-add-eq-max}

@@ -1,4 +1,4 @@
--- The text of a path, which its copies may share.
+-- The text of a path, which its copies may share (this project's rule).
 use Rattle.std.specs.Prelude.{ℕ, List}
 use Rattle.std.specs.String.{string_bytes}
 use Rattle.std.specs.Arc.{arc_str_bytes}

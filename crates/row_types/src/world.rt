@@ -32,7 +32,8 @@ pub trait Truth {
     /// In a told world a name has at most one true row.
     ghost one_row: { told ≡ true → (a b : RowFacts) → a.name ≡ b.name → true_row a → true_row b → a ≡ b };
 
-    /// A true row is of the edition whose rows this program makes.
+    /// A true row is of the edition whose rows this program makes. So an index holds rows of the edition alone, and what it takes
+    /// is any row that is true.
     ghost of_edition: { (row : RowFacts) → true_row row → row.edition ≡ EDITION };
 }
 

@@ -65,11 +65,12 @@ TellsIndex true_row told shows name read.Failed seat turn later_seat =
 TellsIndex true_row told shows name read.OutOfMemory seat turn later_seat =
     (turn ≡ Ended end.OutOfMemory) × (later_seat ≡ seat)
 
--- what may become of the name of a row, and of one that is to be missed
+-- what may become of the name of a row
 abbrev pub FitsRow : Turn → Type 0
 FitsRow Missed = ⊥
 FitsRow _ = Unit {0}
 
+-- what may become of a name that is to be missed
 abbrev pub FitsMiss : Turn → Type 0
 FitsMiss Missed = Unit {0}
 FitsMiss Passed = Unit {0}
@@ -81,11 +82,12 @@ FitsRead read.OutOfMemory turn = turn ≡ Ended end.OutOfMemory
 FitsRead (read.Row row) turn = FitsRow turn
 FitsRead _ turn = FitsMiss turn
 
--- the names that it adds to those published, and to those missed
+-- the names that it adds to those published
 abbrev pub published_by : Turn → ℕ
 published_by DonePublished = 1
 published_by _ = 0
 
+-- the names that it adds to those missed
 abbrev pub missed_by : Turn → ℕ
 missed_by Missed = 1
 missed_by _ = 0

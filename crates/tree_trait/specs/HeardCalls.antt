@@ -1,4 +1,4 @@
--- The list of questions that a tree in memory keeps.
+-- The list of questions that a tree in memory keeps (this project's rule).
 use Rattle.std.specs.Prelude.{◌≡◌, false}
 use Rattle.std.specs.String.{string_bytes}
 use Rattle.tree_trait.specs.Dir.{dir_facts}

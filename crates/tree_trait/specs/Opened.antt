@@ -6,7 +6,8 @@ use Rattle.row_types.specs.Name.{NameFacts}
 use Rattle.row_types.specs.Stamp.{StampFacts}
 use Rattle.tree_trait.specs.Found.{Versions}
 
--- the picture is one of a version of the name
+-- the picture is one of a version of the name, of some version in a told world too: a true row wants a version's bytes, and which
+-- of the files that agree they are doesn't matter, since all have one reading
 pub record IsPictureOf (version : Versions) (name : NameFacts) (p : PictureFacts) : Type 0 where
   pub bytes : List ℕ
   pub known : version name.path name.stamp bytes

@@ -1,4 +1,4 @@
--- A piece of a path, as an entry.
+-- A piece of a path, as an entry (this crate's bookkeeping, which no public clause cites).
 use Rattle.tree_trait.specs.Entry.{EntryFacts}
 use Rattle.tree_trait.specs.declared.folder.Piece.{Piece}
 

@@ -19,8 +19,8 @@ pub record IsRowOf (name : NameFacts) (bytes : List ℕ) (row : RowFacts) : Type
   pub edition : row.edition ≡ EDITION
   pub reading : IsReading name.stamp bytes row.reading
 
--- a range on which the reading of a file with the stamp depends: one of the file's parts, unless it is larger than a file that
--- is read
+-- a range on which the reading of a file with the stamp depends: one of the file's parts, unless it is larger than a file that is
+-- read, whose reading is by its size and rests on nothing
 pub record IsReadPart (stamp : StampFacts) (b : List ℕ) (r : Range) : Type 0 where
   pub small : stamp.size ≤ FILE_LIMIT
   pub part : IsSomePart b r

@@ -1,5 +1,5 @@
--- A told world of one path with two versions, which their sizes tell apart (this project's example). The
--- lemmas stand here since the laws of the world cite them.
+-- A told world of one path with two versions, which their sizes tell apart (this project's example). The lemmas stand here, and
+-- without a tactic, since the laws of the world cite them, and these may cite nothing of the `proofs/` of their own crate.
 use Rattle.std.specs.Prelude.{◌≡◌, ℕ, ◌==◌, pos, ◌⊎◌, List, codes, length, true, Result, Err, refl}
 use Rattle.std.proofs.Common.{sym, ◌∙◌, ap, subst, inl, inr}
 use Rattle.std.proofs.lemmas.Bool.{false≢true}
@@ -61,6 +61,7 @@ one_sized : (stamp : StampFacts) (bytes : List ℕ)
 one_sized stamp bytes (inl p) = ap length p.filled ∙ ap (λ (s : StampFacts). s.size) (sym p.stamped)
 one_sized stamp bytes (inr p) = ap length p.filled ∙ ap (λ (s : StampFacts). s.size) (sym p.stamped)
 
+-- each content that a name has is as long as its stamp says
 pub either_is_sized : true ≡ true → (asked : List ℕ) (stamp : StampFacts) (bytes : List ℕ)
     → IsEither asked stamp bytes → length bytes ≡ stamp.size
 either_is_sized told asked stamp bytes p = one_sized stamp bytes p.one
