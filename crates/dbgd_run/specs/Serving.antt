@@ -41,6 +41,7 @@ pub record ServeRules (T D L : Type 0) : Type 1 where
   pub sees : D → ShownDoor
   pub views : L → ShownLink
 
+-- the same, field by field
 abbrev pub serve_rules : {T D L : Type 0} → Setting T → List (List ℕ) → ℕ → ConnSetting T → (D → ShownDoor) → (L → ShownLink)
     → ServeRules T D L
 serve_rules setting roots secs scene sees views =
@@ -53,6 +54,7 @@ pub record CrewFacts (T D L : Type 0) : Type 0 where
   pub streams : Streams
   pub places : List (DoorPlace T D L)
 
+-- the same, field by field
 abbrev pub crew_of : {T D L : Type 0} → List T → Option (List Waited) → Streams → List (DoorPlace T D L) → CrewFacts T D L
 crew_of hands woke streams places = record { hands = hands; woke = woke; streams = streams; places = places }
 
@@ -194,6 +196,7 @@ pub record ServesHeld {T D L : Type 0} (r : ServeRules T D L) (path line : List 
   pub says : Announces line true before.streams told
   pub serves : ServesFrom r (record before { log = puts_of (current found); streams = told }) places fate how log after
 
+-- what a server does with its store, by how it ends
 abbrev pub ServesStore : {T D L : Type 0} → ServeRules T D L → List ℕ → List ℕ → ShownStore → ShownStore → PassingScene T
     → List (DoorPlace T D L) → ServeEnd → CrewFacts T D L → Type 0
 ServesStore r path line old new before places (Refused fault) after = RefusesStore r path old new before places fault after

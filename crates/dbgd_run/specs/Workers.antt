@@ -91,6 +91,7 @@ pub record PlaceRan
   pub ran : ServesOnce scene first (worker_in sees views before) log (worker_in sees views after)
   pub kept : after.end ≡ Some ran.end
 
+-- the same between two moments of the token
 abbrev pub RunsPlace : {T D L : Type 0} → ConnSetting T → (D → ShownDoor) → (L → ShownLink) → SeatFacts Change Origin → DoorPlace T D L
     → SeatFacts Change Origin → DoorPlace T D L → Type 0
 RunsPlace scene sees views start before later after = PlaceRan scene sees views start.seen before later.seen after
@@ -102,19 +103,23 @@ pub record PlaceServed
   pub by : ServedBy scene first last (worker_in sees views before) (worker_in sees views after)
   pub kept : after.end ≡ Some by.ran.end
 
--- the hands, the doors, the rows of links, the shares and the ends of places, in order
+-- the hands of places, in order
 abbrev pub hands_at : {T D L : Type 0} → List (DoorPlace T D L) → List T
 hands_at places = map (λ place. place.hand) places
 
+-- their doors
 abbrev pub doors_at : {T D L : Type 0} → List (DoorPlace T D L) → List D
 doors_at places = map (λ place. place.door) places
 
+-- their rows of links
 abbrev pub links_at : {T D L : Type 0} → List (DoorPlace T D L) → List (Vec L)
 links_at places = map (λ place. place.links) places
 
+-- their shares
 abbrev pub shares_at : {T D L : Type 0} → List (DoorPlace T D L) → List ShareFacts
 shares_at places = map (λ place. place.share) places
 
+-- their ends, where their doors were served
 abbrev pub ends_at : {T D L : Type 0} → List (DoorPlace T D L) → List (Option DoorEnd)
 ends_at places = map (λ place. place.end) places
 
