@@ -1,6 +1,6 @@
 //! Bytes of a file that are read before they are asked for.
 
-ghost use Rattle.std.specs.Prelude.{◌≡◌, IfSome, length};
+ghost use Rattle.std.specs.Prelude.{◌≡◌, IfSome, [], length};
 ghost use Rattle.dbgd_edges.specs.Numbers.{ArePinnedAhead};
 
 use std::alloc::Global;
@@ -33,7 +33,10 @@ fn window(at: u64, size: u64) -> (u64, u64) {
 
 impl Ahead {
     /// Nothing was read.
-    pub fn new(alloc: Global) -> Ahead {
+    pub fn new(alloc: Global) -> Ahead
+        ensures start { result.start ≡ 0 }
+        ensures none { result.bytes.items ≡ [] }
+    {
         Ahead {
             alloc,
             start: 0,
@@ -42,7 +45,9 @@ impl Ahead {
     }
 
     /// Where the bytes begin.
-    pub fn start(&self) -> u64 {
+    pub fn start(&self) -> u64
+        ensures { result ≡ self.now.start }
+    {
         self.start
     }
 
@@ -52,7 +57,10 @@ impl Ahead {
     }
 
     /// Forgets them.
-    pub fn forget(&mut self) {
+    pub fn forget(&mut self)
+        ensures none { self.new.bytes.items ≡ [] }
+        ensures start { self.new.start ≡ self.old.start }
+    {
         self.bytes.clear();
     }
 

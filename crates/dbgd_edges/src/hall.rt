@@ -1,5 +1,7 @@
 //! The places of a lobby.
 
+ghost use Rattle.std.specs.Prelude.{◌≡◌, [], length};
+
 use crate::lobby_limits::LobbyLimits;
 use crate::parked::{Lot, Parked, Why};
 use std::alloc::{AllocError, Global};
@@ -27,7 +29,10 @@ pub struct Hall {
 
 impl Hall {
     /// A hall without places.
-    pub fn new(alloc: Global) -> Hall {
+    pub fn new(alloc: Global) -> Hall
+        ensures places { (result.rows.items ≡ []) × (result.free.items ≡ []) × (result.ready.items ≡ []) }
+        ensures counts { (result.conns ≡ 0) × (result.bytes ≡ 0) }
+    {
         Hall {
             rows: Vec::new(alloc),
             free: Vec::new(alloc),
@@ -38,7 +43,9 @@ impl Hall {
     }
 
     /// How many connections a worker is to take.
-    pub fn ready(&self) -> usize {
+    pub fn ready(&self) -> usize
+        ensures { result ≡ length self.now.ready.items }
+    {
         self.ready.len()
     }
 
