@@ -1,6 +1,6 @@
 //! The places of a lobby.
 
-ghost use Rattle.std.specs.Prelude.{◌≡◌, [], length};
+ghost use Rattle.std.specs.Prelude.{◌≡◌, ◌≤◌, [], length};
 
 use crate::lobby_limits::LobbyLimits;
 use crate::parked::{Lot, Parked, Why};
@@ -50,7 +50,9 @@ impl Hall {
     }
 
     /// A free place. There is memory from then on to free it, and to tell of it.
-    pub fn take_place(&mut self) -> Result<usize, AllocError> {
+    pub fn take_place(&mut self) -> Result<usize, AllocError>
+        ensures counts { (self.new.conns ≡ self.old.conns) × (self.new.bytes ≡ self.old.bytes) }
+    {
         if let Some(place) = self.free.pop() {
             return Ok(place);
         }
@@ -62,7 +64,10 @@ impl Hall {
     }
 
     /// Gives a place back.
-    pub fn free_place(&mut self, place: usize) {
+    pub fn free_place(&mut self, place: usize)
+        ensures rows { self.new.rows.items ≡ self.old.rows.items }
+        ensures counts { (self.new.conns ≡ self.old.conns) × (self.new.bytes ≡ self.old.bytes) }
+    {
         let _ = self.free.push(place);
     }
 
@@ -77,7 +82,9 @@ impl Hall {
     }
 
     /// Takes out what stands at a place.
-    fn take(&mut self, place: usize) -> Option<Parked> {
+    fn take(&mut self, place: usize) -> Option<Parked>
+        ensures { self.new.conns ≤ self.old.conns }
+    {
         let parked = self.rows.get_mut(place)?.take()?;
         self.conns = self.conns.saturating_sub(1);
         self.bytes = self.bytes.saturating_sub(parked.begun.capacity() as u64);
@@ -85,7 +92,9 @@ impl Hall {
     }
 
     /// Closes the connection at a place.
-    pub fn close(&mut self, place: usize) {
+    pub fn close(&mut self, place: usize)
+        ensures { self.new.conns ≤ self.old.conns }
+    {
         if self.take(place).is_some() {
             self.free_place(place);
         }
