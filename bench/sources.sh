@@ -1,7 +1,8 @@
 #!/usr/bin/env bash
 # How long `sources` takes of a program of two thousand generated C++ files with DWARF 5, as ratios: to `readelf
 # --debug-dump=rawline` of it, of which it must take at most a tenth, and to reading its six debug sections once, of which
-# it must take at most three times. What `sources` takes of a file without debug information is the start's, and is taken
+# it must take at most three times. Of the same files compiled with DWARF 4 it must take at most 1.2 times as long, and prints the same
+# paths. What `sources` takes of a file without debug information is the start's, and is taken
 # off. It stands outside the gate, since the time of a busy machine says nothing.
 #
 # The sections are read by `cat`, over and over into one small buffer. A file's bytes are held in memory before they are
@@ -38,6 +39,8 @@ printf 'int main() { return 0; }\n' >"$work/src/main.cc"
 say "compiling $units files"
 (cd -- "$work/src" && printf '%s\0' *.cc | xargs -0 -n 50 -P "$(nproc)" g++ -w -gdwarf-5 -c) || exit 1
 (cd -- "$work/src" && g++ -Wl,--build-id=sha1 -o "$work/program" ./*.o) || exit 1
+(cd -- "$work/src" && printf '%s\0' *.cc | xargs -0 -n 50 -P "$(nproc)" g++ -w -gdwarf-4 -c &&
+  g++ -Wl,--build-id=sha1 -o "$work/older" ./*.o) || exit 1
 
 for name in info abbrev line str line_str str_offsets; do
   objcopy --dump-section ".debug_$name=$work/$name" "$work/program" /dev/null 2>/dev/null
@@ -47,6 +50,7 @@ objcopy --strip-debug "$work/program" "$work/bare" || exit 1
 
 start=$(least "$program" sources "$work/bare") || { say "sources of a stripped program failed"; exit 1; }
 all=$(least "$program" sources "$work/program") || { say "sources of the program failed"; exit 1; }
+older=$(least "$program" sources "$work/older") || { say "sources of the program with DWARF 4 failed"; exit 1; }
 lines=$(least readelf --debug-dump=rawline "$work/program") || exit 1
 read=$(least cat "$work/sections")
 held=$(least dd if="$work/sections" of=/dev/null bs="$(wc -c <"$work/sections")" count=1 status=none)
@@ -58,6 +62,11 @@ say "$(printf '%d.%03d of readelf, %d.%02d times the sections read, %d.%02d time
   $((own / lines)) $((own * 1000 / lines % 1000)) $((own / read)) $((own * 100 / read % 100)) \
   $((own / held)) $((own * 100 / held % 100)))"
 failed=0
+paths() { "$program" sources "$1" | grep -vE '/(<built-in>|<command-line>)$'; } # FILE
+cmp -s <(paths "$work/program") <(paths "$work/older") || { say "other paths with DWARF 4"; failed=1; }
+say "with DWARF 4 $((older - start)) us without the start: $(printf '%d.%02d times' $(((older - start) / own)) \
+  $(((older - start) * 100 / own % 100)))"
+[ $(((older - start) * 10)) -le $((own * 12)) ] || { say "more than 1.2 times as long with DWARF 4"; failed=1; }
 [ $((own * 10)) -le "$lines" ] || { say "more than a tenth of readelf"; failed=1; }
 [ "$own" -le $((read * 3)) ] || { say "more than three times the reading of the sections"; failed=1; }
 exit "$failed"

@@ -1,6 +1,6 @@
 #!/usr/bin/env bash
 # Compares `sources`, path by path, with what readelf lists of the line tables of programs that are compiled here, in C and
-# C++ and by each compiler that is there.
+# C++ and by each compiler that is there, with DWARF 2 to 5 of both formats, and of programs that `as -g` assembles.
 #
 # usage: checks/sources_readelf.sh [PROGRAM]      PROGRAM is ./dbgd of the repository's top unless given
 source "$(dirname -- "$(readlink -f -- "${BASH_SOURCE[0]}")")/lib/head.sh" || exit 1
@@ -13,6 +13,7 @@ by_readelf() { # FILE
   { readelf --debug-dump=info -- "$1"; readelf --debug-dump=rawline -- "$1"; } 2>/dev/null | awk '
     function number_of(word) { return word == "0" ? "0x0" : tolower(word) }
     function text(line) { sub(/^.*\): /, "", line); return line }
+    function value(line) { sub(/^[^:]*: /, "", line); sub(/^\([^)]*\): /, "", line); return line }
     function canon(path,   pieces, count, i, kept, all) {
       count = split(path, pieces, "/")
       kept = 0
@@ -30,11 +31,13 @@ by_readelf() { # FILE
       if (path ~ /^\//) return path
       return folder == "" ? "" : folder "/" path
     }
-    function finish(   unit, i, first, folder, path) {
+    # Version 5 lists directory 0; before it that is the unit'\''s own, and the first that is listed has the index 1.
+    function finish(   unit, i, at, first, folder, path) {
       for (unit = 1; unit <= units[table]; unit++) {
-        first = folders ? behind(home[table, unit], folder_at[0]) : home[table, unit]
+        first = version == 5 && folders ? behind(home[table, unit], folder_at[0]) : home[table, unit]
         for (i = 0; i < files; i++) {
-          folder = dir[i] == 0 ? first : (dir[i] < folders ? behind(first, folder_at[dir[i]]) : "")
+          at = version == 5 ? dir[i] : dir[i] - 1
+          folder = dir[i] == 0 ? first : (at < folders ? behind(first, folder_at[at]) : "")
           path = behind(folder, file[i])
           if (path ~ /^\// && length(path) <= 4096) print canon(path)
         }
@@ -43,14 +46,16 @@ by_readelf() { # FILE
     }
     /DW_TAG_/ { place = ""; where = "" }
     /DW_AT_stmt_list/ { place = number_of($NF) }
-    /DW_AT_comp_dir/ { where = text($0) }
+    /DW_AT_comp_dir/ { where = value($0) }
     /DW_AT_stmt_list/ || /DW_AT_comp_dir/ { if (place != "" && where != "") { home[place, ++units[place]] = where; place = where = "" } }
     /^  Offset: / { finish(); table = number_of($2); part = "" }
+    /^  DWARF Version:/ { version = $3 + 0 }
     /^ The Directory Table/ { part = "folders" }
     /^ The File Name Table/ { part = "files" }
     /^ Line Number Statements/ { part = "" }
-    part == "folders" && /^  [0-9]+\t/ { folder_at[folders++] = text($0) }
-    part == "files" && /^  [0-9]+\t/ { split($0, fields, "\t"); split(fields[2], number, " "); dir[files] = number[1] + 0; file[files++] = text($0) }
+    part != "" && /^  [0-9]+\t/ { count = split($0, fields, "\t"); name = version == 5 ? text($0) : fields[count] }
+    part == "folders" && /^  [0-9]+\t/ { folder_at[folders++] = name }
+    part == "files" && /^  [0-9]+\t/ { split(fields[2], number, " "); dir[files] = number[1] + 0; file[files++] = name }
     END { finish() }
   ' | sort -u
 }
@@ -126,13 +131,33 @@ src -fdebug-prefix-map=$tree=/a/b/..
 . -gsplit-dwarf
 . -O2 -flto
 WORDS
-  # Compressed debug sections, older versions and files that the linker has still to put together list no source.
+  for version in 2 3 4 5; do
+    for format in -gdwarf32 -gdwarf64; do
+      compile "$compiler" "$suffix" src "-gdwarf-$version" "$format" -I../inc ||
+        { say "skipped: $compiler doesn't take -gdwarf-$version with $format"; continue; }
+      same "$work/program" "$compiler -gdwarf-$version $format"
+      [ -s "$work/wanted" ] || { say "readelf lists no path of a program of $compiler -gdwarf-$version $format"; exit 1; }
+    done
+  done
+  # Compressed debug sections and files that the linker has still to put together list no source.
   compile "$compiler" "$suffix" . -gz=zlib && readelf -SW "$work/program" | grep -q '\.debug_line.* C ' &&
     none "$work/program" "$compiler -gz=zlib"
-  compile "$compiler" "$suffix" . -gdwarf-4 && none "$work/program" "$compiler -gdwarf-4"
   (cd -- "$tree" && "$compiler" -w -gdwarf-5 -I inc -Wl,-r -Wl,--build-id=sha1 -nostdlib -o "$work/object" "src/main.$suffix") \
     2>/dev/null && none "$work/object" "$compiler, relocatable"
 done
+
+# A unit of version 2 over a table of version 3, where no version is asked for.
+printf '\t.globl _start\n_start:\n\tnop\n' >"$tree/src/start.s"
+if command -v as >/dev/null && command -v ld >/dev/null; then
+  for words in -g --gdwarf-2 --gdwarf-3 --gdwarf-4 --gdwarf-5; do
+    (cd -- "$tree/src" && as "$words" -o "$work/start.o" start.s && ld --build-id=sha1 -o "$work/program" "$work/start.o") \
+      >/dev/null 2>&1 || { say "skipped: as doesn't take $words"; continue; }
+    same "$work/program" "as $words"
+    [ -s "$work/wanted" ] || { say "readelf lists no path of a program of as $words"; exit 1; }
+  done
+else
+  say "skipped: there is no as or no ld"
+fi
 
 say "$compared programs and $listed paths compared with readelf; $differing differ"
 [ "$differing" = 0 ]

@@ -9,32 +9,14 @@ use Rattle.file_formats.specs.DwarfForms.{Raw}
 use Rattle.file_formats.specs.DwarfTexts.{Texts}
 use Rattle.file_formats.specs.DwarfLengths.{Piece, piece_at}
 use Rattle.file_formats.specs.DwarfSequences.{Along, ends, goes}
-use Rattle.file_formats.specs.DwarfLines.{Row, no_more, one_more, format_at, AreFormats, field_at, FieldAt, first_value, LineEntry, IsLineEntry, IsLineList, LineTable, AreLineLists, line_head, IsLineTable}
-use Rattle.dwarf_lines.specs.Lists.{at_map, row_of_values, EntryFields, one_field, with_first_fields, fields_at, line_entry, entry_at, formats_at, entries_at, list_or_none, line_table, lists_at, ending_by, lists_within, lists_of, table_in, table_at}
+use Rattle.file_formats.specs.DwarfLines.{Row, no_more, one_more, format_at, AreFormats, field_at, FieldAt, first_value, LineEntry, IsLineEntry, IsLineList, LineTable, AreLineLists}
+use Rattle.dwarf_lines.specs.Lists.{at_map, row_of_values, EntryFields, one_field, with_first_fields, fields_at, line_entry, entry_at, formats_at, entries_at, list_or_none, line_table, lists_at, ending_by, lists_within, lists_of}
 use Rattle.dwarf_forms.specs.Tells.{TellsOnly}
 use Rattle.dwarf_lines.specs.declared.table.ReadTable.{ReadTable}
 use Rattle.dwarf_lines.specs.Bases.{based, IsSameForBases}
 use Rattle.dwarf_lines.specs.Finds.{as_it_is}
+use Rattle.dwarf_lines.proofs.CaseLemmas.{by_some, of_some, was_read, some_same}
 use Rattle.dwarf_lines.proofs.RowLemmas.{row-zero, row-more}
-
--- what comes by a value that may be there comes by one that is there
-by_some : {A B : Type 0} (f : A → Option B) (o : Option A) (r : B) → option_and_then f o ≡ Some r
-    → (x : A) × (o ≡ Some x) × (f x ≡ Some r)
-by_some f (Some x) r e = (x, refl, e)
-by_some f None r e = absurd (cc)
-
--- what is made of a value that may be there is made of one that is there
-of_some : {A B : Type 0} (f : A → B) (o : Option A) (r : B) → option_map f o ≡ Some r → (x : A) × (o ≡ Some x) × (f x ≡ r)
-of_some f (Some x) r e = (x, refl, cc)
-of_some f None r e = absurd (cc)
-
--- what is there, once faults are dropped, was read
-was_read : {A F : Type 0} (o : Result A F) (x : A) → result_ok o ≡ Some x → o ≡ Ok x
-was_read (Ok y) x e = cc
-was_read (Err f) x e = absurd (cc)
-
-some_same : {A : Type 0} {x r : A} → ◌≡◌ {A = Option A} (Some x) (Some r) → x ≡ r
-some_same e = cc
 
 -- what a test lets through is what was there
 only_then : {A : Type 0} (t : Bool) (x r : A) → (if t then Some x else None) ≡ Some r → (t ≡ true) × (x ≡ r)
@@ -157,66 +139,41 @@ module _ (s : Input) where
           number = number;
         }
 
-    lists-found : {p end : ℕ} {table : LineTable} → AreLineLists s texts p end table → lists_within s texts p end ≡ Some table
+    pub lists-found : {p end : ℕ} {table : LineTable} → table.version ≡ s.version → AreLineLists s texts p end table
+        → lists_within s texts p end ≡ Some table
     unfolding lists_within lists_at
-    lists-found {p} {end} {table} h =
+    lists-found {p} {end} {table} version h =
         let ends : nat_le h.files_end end ≡ true = le-leb h.files_end end h.within in
-        let same : line_table h.directories table.files ≡ table = ap (λ paths. record { directories = paths; files = table.files }) (sym h.paths) in
+        let same : line_table s.version h.directories table.files ≡ table =
+        ap (λ (v : ℕ). line_table v h.directories table.files) (sym version)
+        ∙ ap (λ (paths : List (Option (List ℕ))). record { version = table.version; directories = paths; files = table.files }) (sym h.paths) in
         rw (list-found h.first, list-found h.second, ends) (ap Some same)
 
-    lists-there : {p end : ℕ} {table : LineTable} → lists_within s texts p end ≡ Some table → AreLineLists s texts p end table
+    pub lists-there : {p end : ℕ} {table : LineTable} → lists_within s texts p end ≡ Some table
+        → (table.version ≡ s.version) × AreLineLists s texts p end table
     unfolding lists_within lists_at
     lists-there {p} {end} {table} e =
         let (x, here, by) = by_some (ending_by end) (lists_at s texts p) table e in
-        let (directories, first, behind) = by_some (λ directories. option_map (at_map (line_table directories.value)) (list_or_none s texts directories.next))
+        let (directories, first, behind) = by_some (λ directories. option_map (at_map (line_table s.version directories.value)) (list_or_none s texts directories.next))
         (list_or_none s texts p) x here in
-        let (files, second, is) = of_some (at_map (line_table directories.value)) (list_or_none s texts directories.next) x behind in
+        let (files, second, is) = of_some (at_map (line_table s.version directories.value)) (list_or_none s texts directories.next) x behind in
         let (within, same) = ending x end table by in
-        let all : line_table directories.value files.value ≡ table = ap (λ (y : At LineTable). y.value) is ∙ same in
-        let last : files.next ≡ x.next = ap (λ (y : At LineTable). y.next) is in
-        subst (λ t. AreLineLists s texts p end t) all
-        (record {
-          directories = directories.value;
-          directories_end = directories.next;
-          first = list-there first;
-          paths = refl;
-          files_end = files.next;
-          second = list-there second;
-          within = omega (arith, last, within);
-        })
-
-module _ (lines : List ℕ) (p : ℕ) (texts : Texts) where
-  table-found : (table : LineTable) → IsLineTable lines p texts table → table_at lines p texts ≡ Some table
-  unfolding table_at
-  table-found table h = rw (h.stands, h.header) (lists-found _ _ h.lists)
-
-  table-there : (table : LineTable) → table_at lines p texts ≡ Some table → IsLineTable lines p texts table
-  unfolding table_at
-  table-there table e =
-      let (piece, stands, by) = by_some (λ (piece : At Piece). table_in texts piece.value) (piece_at texts.order lines p) table e in
-      let (head, header, lists) = by_some (lists_of texts piece.value) (line_head texts.order piece.value) table by in
-      record { piece = piece; stands = stands; head = head; header = header; lists = lists-there _ _ lists }
+        let all : line_table s.version directories.value files.value ≡ table = ap (λ (y : At LineTable). y.value) is ∙ same in
+        let last : files.next ≡ x.next = ap (λ (y : At LineTable). y.next) is in (
+          sym (ap (λ (t : LineTable). t.version) all),
+          subst (λ t. AreLineLists s texts p end t) all
+              (record {
+                directories = directories.value;
+                directories_end = directories.next;
+                first = list-there first;
+                paths = refl;
+                files_end = files.next;
+                second = list-there second;
+                within = omega (arith, last, within);
+              }),
+        )
 
 -- an answer that the function gives is the one that the relation holds of
-tells : {A : Type 0} (P : A → Type 0) (o : Option A) → ((x : A) → P x → o ≡ Some x) → ((x : A) → o ≡ Some x → P x) → TellsOnly as_it_is P o
+pub tells : {A : Type 0} (P : A → Type 0) (o : Option A) → ((x : A) → P x → o ≡ Some x) → ((x : A) → o ≡ Some x → P x) → TellsOnly as_it_is P o
 tells P None found there = λ x h. let e = found x h in absurd (cc)
 tells P (Some x) found there = record { here = there x refl; only = λ y h. some_same (sym (found y h)) }
-
-table-tells : (lines : List ℕ) (p : ℕ) (texts : Texts) → TellsOnly as_it_is (IsLineTable lines p texts) (table_at lines p texts)
-table-tells lines p texts =
-    tells (IsLineTable lines p texts) (table_at lines p texts) (table-found lines p texts) (table-there lines p texts)
-
--- what is told of a table is told of the one that was read
-pub if_tells : {E : Type 0} (lines : List ℕ) (p : ℕ) (texts : Texts) (r : Result ReadTable E)
-    → IfOk r (λ read. read.table ≡ table_at lines p texts) → IfOk r (λ read. TellsOnly as_it_is (IsLineTable lines p texts) read.table)
-if_tells lines p texts (Ok read) is = subst (TellsOnly as_it_is (IsLineTable lines p texts)) (sym is) (table-tells lines p texts)
-if_tells lines p texts (Err e) is = tt
-
--- a table without indexes is told of each place in .debug_str_offsets
-pub if_tells-based : {E : Type 0} (lines : List ℕ) (p : ℕ) (texts : Texts) (r : Result ReadTable E)
-    → IfOk r (λ read. read.table ≡ table_at lines p texts)
-    → IfOk r (λ read. read.indexed ≡ false → IsSameForBases (λ x. table_at lines p x) texts)
-    → IfOk r (λ read. read.indexed ≡ false → (base : Option ℕ) → TellsOnly as_it_is (IsLineTable lines p (based texts base)) read.table)
-if_tells-based lines p texts (Ok read) is fixed = λ none base.
-    subst (TellsOnly as_it_is (IsLineTable lines p (based texts base))) (fixed none base ∙ sym is) (table-tells lines p (based texts base))
-if_tells-based lines p texts (Err e) is fixed = tt

@@ -1,30 +1,36 @@
-//! A line table. DWARF 5, section 6.2.4.
+//! A line table. DWARF 2 to 5, section 6.2.4.
 
 ghost use Rattle.std.specs.Prelude.{◌≡◌, ◌≤◌, ℕ, Option, false, length, IfOk, map};
-ghost use Rattle.file_formats.specs.DwarfLines.{IsLineTable, LineCodes};
+ghost use Rattle.file_formats.specs.DwarfLines.{IsLineTable, IsListed, LineCodes, line_input};
 ghost use Rattle.dwarf_forms.specs.FormAnswers.{input_of};
 ghost use Rattle.dwarf_forms.specs.Pieces.{piece_here};
 ghost use Rattle.dwarf_forms.specs.TextAnswers.{strings_texts};
 ghost use Rattle.dwarf_forms.specs.TextBytes.{text_said};
 ghost use Rattle.dwarf_forms.specs.Tells.{TellsOnly};
-ghost use Rattle.dwarf_lines.specs.Bases.{IsSameForBases, based};
+ghost use Rattle.dwarf_lines.specs.Bases.{IsSameForBases, TellsTable, based};
+ghost use Rattle.dwarf_lines.specs.Ended.{AreItems};
 ghost use Rattle.dwarf_lines.specs.Entries.{file_facts};
 ghost use Rattle.dwarf_lines.specs.Finds.{FindsPart, as_it_is};
-ghost use Rattle.dwarf_lines.specs.Lists.{lists_at, lists_of, directory_path, table_at};
+ghost use Rattle.dwarf_lines.specs.Lists.{lists_at, lists_of, directory_path};
 
+use crate::ended::read_ended;
 use crate::entry::LineFile;
 use crate::head::read_head;
 use crate::lists::{ReadList, read_list};
 use byte_read::Cursor;
 use dwarf_forms::{Format, Piece, Strings, Text, piece_at};
 use file_formats::dwarf_lines::LineHead;
+use file_formats::dwarf_units::DWARF_VERSION;
 use std::alloc::{AllocError, Global};
 use std::marker::Model;
 
 /// What a line table lists. Contracts see it as the paths of its directories, and its files.
 #[derive(Drop)]
 pub struct LineTable<'a> {
-    /// The paths of the directories, by their indexes from 0; None where the text isn't there.
+    /// The version.
+    pub version: u16,
+    /// The paths of the directories in their order: in version 5 the first has the index 0, and before
+    /// it 1. None where the text isn't there.
     pub dirs: Vec<Option<Text<'a>>>,
     /// The files, by their indexes from 0.
     pub files: Vec<LineFile<'a>>,
@@ -39,6 +45,7 @@ impl<'a> Model for LineTable<'a> {
     ghost Value = { formats.LineTable };
 
     ghost view = { λ t. record {
+      version = t.version;
       directories = map text_said t.dirs.items;
       files = map file_facts t.files.items;
     } };
@@ -101,14 +108,18 @@ fn read_lists<'a>(
     };
     let dirs = paths_of(alloc, directories.as_slice())?;
     Ok(ReadTable {
-        table: Some(LineTable { dirs, files }),
+        table: Some(LineTable {
+            version: format.version,
+            dirs,
+            files,
+        }),
         indexed,
     })
 }
 
-/// Reads the lists of a table with this header.
+/// Reads the lists of a table with this header, of version 5.
 #[tactic(auto, unfolding(crate::specs::Lists::lists_within))]
-fn read_within<'a>(
+fn read_counted<'a>(
     alloc: Global,
     piece: &Piece<'a>,
     head: LineHead,
@@ -127,6 +138,7 @@ fn read_within<'a>(
     let format = Format {
         wide: piece.wide,
         address_size: head.address_size,
+        version: head.version,
     };
     let mut cursor = Cursor::new(piece.bytes, strings.order);
     if cursor.take(head.lists as u64).is_err() {
@@ -154,17 +166,73 @@ fn read_within<'a>(
     })
 }
 
-/// Reads the table at a place, which has one value at most.
-#[tactic(auto, unfolding(crate::specs::Lists::table_at))]
-fn read_whole<'a>(
+/// Reads the lists of a table with this header, of a version before 5. They name no texts by indexes.
+fn read_named<'a>(
+    alloc: Global,
+    piece: &Piece<'a>,
+    head: LineHead,
+    strings: &Strings<'a>,
+) -> Result<ReadTable<'a>, AllocError>
+    requires head { head.lists ≤ length piece.now.bytes.now }
+    ensures lists { IfOk result (λ read. TellsOnly as_it_is
+        (AreItems (line_input strings.now.order (piece_here piece.now).value head) head.lists head.end)
+        read.table) }
+    ensures fixed { IfOk result (λ read. read.indexed ≡ false) }
+{
+    let format = Format {
+        wide: piece.wide,
+        address_size: head.address_size,
+        version: head.version,
+    };
+    let mut cursor = Cursor::new(piece.bytes, strings.order);
+    if cursor.take(head.lists as u64).is_err() {
+        return Ok(ReadTable {
+            table: None,
+            indexed: false,
+        });
+    }
+    let table = read_ended(alloc, &mut cursor, format, head.end)?;
+    Ok(ReadTable {
+        table,
+        indexed: false,
+    })
+}
+
+/// Reads the lists of a table with this header.
+#[tactic(auto, using(crate::proofs::EndedLaws::counted_told, crate::proofs::EndedLaws::ended_told))]
+fn read_within<'a>(
+    alloc: Global,
+    piece: &Piece<'a>,
+    head: LineHead,
+    strings: &Strings<'a>,
+) -> Result<ReadTable<'a>, AllocError>
+    requires { head.lists ≤ length piece.now.bytes.now }
+    ensures { IfOk result (λ read. TellsTable
+        (λ texts. IsListed texts (piece_here piece.now).value head) (strings_texts strings.now) read) }
+{
+    if head.version == DWARF_VERSION {
+        read_counted(alloc, piece, head, strings)
+    } else {
+        read_named(alloc, piece, head, strings)
+    }
+}
+
+/// Reads the line table at a place of .debug_line, and tells whether it may be another one where
+/// texts are taken from another place of .debug_str_offsets. Texts are sought by the table's own
+/// format and not by that of `strings`. Memory is taken by what is read, and not by the counts that
+/// the table states.
+#[tactic(auto, using(crate::proofs::EndedLaws::table_told, crate::proofs::EndedLaws::table_fixed))]
+pub fn read_table<'a>(
     alloc: Global,
     line: &'a [u8],
     offset: u64,
     strings: &Strings<'a>,
 ) -> Result<ReadTable<'a>, AllocError>
-    ensures table { IfOk result (λ read. read.table ≡ table_at line.now offset (strings_texts strings.now)) }
-    ensures fixed { IfOk result (λ read. read.indexed ≡ false → IsSameForBases
-        (λ texts. table_at line.now offset texts) (strings_texts strings.now)) }
+    ensures table { IfOk result (λ read. TellsOnly as_it_is
+        (IsLineTable line.now offset (strings_texts strings.now)) read.table) }
+    ensures fixed { IfOk result (λ read. read.indexed ≡ false → (base : Option ℕ)
+        → TellsOnly as_it_is (IsLineTable line.now offset (based (strings_texts strings.now) base)) read.table) }
+    ensures codes { LineCodes }
 {
     let Some(piece) = piece_at(line, offset, strings.order) else {
         return Ok(ReadTable {
@@ -179,25 +247,6 @@ fn read_whole<'a>(
         });
     };
     read_within(alloc, &piece, head, strings)
-}
-
-/// Reads the line table at a place of .debug_line, and tells whether it may be another one where
-/// texts are taken from another place of .debug_str_offsets. Texts are sought by the table's own
-/// format and not by that of `strings`. Memory is taken by what is read, and not by the counts that
-/// the table states.
-pub fn read_table<'a>(
-    alloc: Global,
-    line: &'a [u8],
-    offset: u64,
-    strings: &Strings<'a>,
-) -> Result<ReadTable<'a>, AllocError>
-    ensures table { IfOk result (λ read. TellsOnly as_it_is
-        (IsLineTable line.now offset (strings_texts strings.now)) read.table) }
-    ensures fixed { IfOk result (λ read. read.indexed ≡ false → (base : Option ℕ)
-        → TellsOnly as_it_is (IsLineTable line.now offset (based (strings_texts strings.now) base)) read.table) }
-    ensures codes { LineCodes }
-{
-    read_whole(alloc, line, offset, strings)
 }
 
 /// Reads the directories and files of the line table at a place of .debug_line, None where the

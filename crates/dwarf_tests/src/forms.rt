@@ -41,14 +41,14 @@ fn said<'a>(
     base: Option<u64>,
 ) -> Result<Told<'a>, FormFault> {
     let mut cursor = Cursor::new(bytes, order);
-    let value = read_form(&mut cursor, form, constant, 8, &strings(base, false))?;
+    let value = read_form(&mut cursor, form, constant, 8, 5, &strings(base, false))?;
     Ok(value_told(value))
 }
 
 /// How many bytes the value of a form takes in BYTES, None where it can't be read.
 fn size_of(form: u64, wide: bool) -> Option<usize> {
     let mut cursor = Cursor::new(BYTES, Order::Little);
-    match read_form(&mut cursor, form, None, 8, &strings(None, wide)) {
+    match read_form(&mut cursor, form, None, 8, 5, &strings(None, wide)) {
         Ok(_) => Some(cursor.at()),
         Err(_) => None,
     }
@@ -107,6 +107,44 @@ fn each_form_takes_its_bytes(rt: HostRuntime) {
     for (form, narrow, wide) in &SIZES {
         assert!(rt; size_of(*form, false) == Some(*narrow), "form {form}");
         assert!(rt; size_of(*form, true) == Some(*wide), "wide form {form}");
+    }
+}
+
+/// How many bytes a value of form ref_addr takes.
+fn size_of_reference(version: u16, address_size: u8, wide: bool) -> Option<usize> {
+    let mut cursor = Cursor::new(BYTES, Order::Little);
+    match read_form(
+        &mut cursor,
+        0x10,
+        None,
+        address_size,
+        version,
+        &strings(None, wide),
+    ) {
+        Ok(_) => Some(cursor.at()),
+        Err(_) => None,
+    }
+}
+
+// DWARF 2, section 7.5.4: the size of an address. DWARF 3 to 5, the same section: 4 bytes in the 32-bit
+// format and 8 in the 64-bit one. The version, the size of an address, the format, and the size.
+static REFERENCES: [(u16, u8, bool, usize); 9] = [
+    (2, 8, false, 8),
+    (2, 4, false, 4),
+    (2, 4, true, 4),
+    (2, 1, true, 1),
+    (3, 8, false, 4),
+    (3, 4, true, 8),
+    (4, 8, false, 4),
+    (4, 4, true, 8),
+    (5, 8, false, 4),
+];
+
+#[test]
+fn a_reference_has_an_address_size_in_version_2_alone(rt: HostRuntime) {
+    for &(version, address_size, wide, size) in &REFERENCES {
+        let found = size_of_reference(version, address_size, wide);
+        assert!(rt; found == Some(size), "version {version}");
     }
 }
 

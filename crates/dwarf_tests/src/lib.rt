@@ -1,4 +1,4 @@
-//! Tests of the crates that read DWARF 5: forms, units, line tables, the source paths of a file's
+//! Tests of the crates that read DWARF: forms, units, line tables, the source paths of a file's
 //! debug sections, and canonical paths.
 #![tactic(auto)]
 

@@ -1,6 +1,7 @@
 //! Whether the clauses say what the standard means, and that memory suffices.
 
-mod tables;
+mod older;
+pub mod tables;
 
 use byte_read::Order;
 use std::alloc::Global;
@@ -31,10 +32,13 @@ fn a_table_lists_its_directories_and_files(rt: HostRuntime) {
     assert!(rt; table_said(&rt, rt.alloc(), &LINE, 0, Order::Little) == Some(expected));
 }
 
+/// A byte of a table, what it becomes, and whether the table can be read then.
+type Damage = (usize, u8, bool);
+
 // A byte of the table, what it becomes, and whether the table can be read then: length, version,
 // header_length, opcode_base, the numbers of formats and of entries. A header_length past the
 // table's end is no fault by itself.
-static DAMAGES: [(usize, u8, bool); 14] = [
+static DAMAGES: [Damage; 14] = [
     (0, 0x42, false),
     (0, 0x40, false),
     (4, 0x04, false),

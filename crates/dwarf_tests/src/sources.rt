@@ -1,6 +1,7 @@
 //! Whether the clauses say what the rules mean, and that memory suffices.
 
 mod cases;
+mod older;
 
 use cases::{Case, Units, holds, lead_to, push, units_lead_to, with_header};
 use dwarf_forms::DebugParts;

@@ -1,5 +1,7 @@
 //! Whether the clauses say what the standard means.
 
+mod older;
+
 use byte_read::Order;
 use dwarf_forms::DebugParts;
 use dwarf_units::{Unit, UnitReader, Units, unit_die, units};

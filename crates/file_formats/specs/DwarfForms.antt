@@ -3,13 +3,13 @@
 use Rattle.std.specs.Prelude.{◌≡◌, ℕ, ◌∷◌, [], List, Option, Some, None, Ok, Err, true, false, ◌==◌, if◌then◌else◌, ℤ}
 use Rattle.std.specs.Option.{option_map}
 use Rattle.std.specs.List.{find}
-use Rattle.file_formats.specs.declared.dwarf_forms.TheConstants.{DW_FORM_ADDR, DW_FORM_BLOCK2, DW_FORM_BLOCK4, DW_FORM_DATA2, DW_FORM_DATA4, DW_FORM_DATA8, DW_FORM_STRING, DW_FORM_BLOCK, DW_FORM_BLOCK1, DW_FORM_DATA1, DW_FORM_FLAG, DW_FORM_SDATA, DW_FORM_STRP, DW_FORM_UDATA, DW_FORM_REF_ADDR, DW_FORM_REF1, DW_FORM_REF2, DW_FORM_REF4, DW_FORM_REF8, DW_FORM_REF_UDATA, DW_FORM_INDIRECT, DW_FORM_SEC_OFFSET, DW_FORM_EXPRLOC, DW_FORM_FLAG_PRESENT, DW_FORM_STRX, DW_FORM_ADDRX, DW_FORM_REF_SUP4, DW_FORM_STRP_SUP, DW_FORM_DATA16, DW_FORM_LINE_STRP, DW_FORM_REF_SIG8, DW_FORM_IMPLICIT_CONST, DW_FORM_LOCLISTX, DW_FORM_RNGLISTX, DW_FORM_REF_SUP8, DW_FORM_STRX1, DW_FORM_STRX2, DW_FORM_STRX3, DW_FORM_STRX4, DW_FORM_ADDRX1, DW_FORM_ADDRX2, DW_FORM_ADDRX3, DW_FORM_ADDRX4}
+use Rattle.file_formats.specs.declared.dwarf_forms.TheConstants.{DW_FORM_ADDR, DW_FORM_BLOCK2, DW_FORM_BLOCK4, DW_FORM_DATA2, DW_FORM_DATA4, DW_FORM_DATA8, DW_FORM_STRING, DW_FORM_BLOCK, DW_FORM_BLOCK1, DW_FORM_DATA1, DW_FORM_FLAG, DW_FORM_SDATA, DW_FORM_STRP, DW_FORM_UDATA, DW_FORM_REF_ADDR, DW_FORM_REF1, DW_FORM_REF2, DW_FORM_REF4, DW_FORM_REF8, DW_FORM_REF_UDATA, DW_FORM_INDIRECT, DW_FORM_SEC_OFFSET, DW_FORM_EXPRLOC, DW_FORM_FLAG_PRESENT, DW_FORM_STRX, DW_FORM_ADDRX, DW_FORM_REF_SUP4, DW_FORM_STRP_SUP, DW_FORM_DATA16, DW_FORM_LINE_STRP, DW_FORM_REF_SIG8, DW_FORM_IMPLICIT_CONST, DW_FORM_LOCLISTX, DW_FORM_RNGLISTX, DW_FORM_REF_SUP8, DW_FORM_STRX1, DW_FORM_STRX2, DW_FORM_STRX3, DW_FORM_STRX4, DW_FORM_ADDRX1, DW_FORM_ADDRX2, DW_FORM_ADDRX3, DW_FORM_ADDRX4, ADDRESS_REF_VERSION}
 use Rattle.file_formats.specs.declared.dwarf_forms.Width.TheVariants.{One, Two, Three, Four, Eight, Offset, Leb}
 use Rattle.file_formats.specs.declared.dwarf_forms.Sense.{Sense}
 use Rattle.file_formats.specs.declared.dwarf_forms.Sense.TheVariants.{Number, Place, Str, LineStr, SupStr, StrIndex, Other}
 use Rattle.file_formats.specs.declared.dwarf_forms.Layout.{Layout}
-use Rattle.file_formats.specs.declared.dwarf_forms.Layout.TheVariants.{Numbered, Signed, Text, Address, Passed, Block}
-use Rattle.file_formats.specs.DwarfReads.{Input, At, Read, ReadFault, is_unknown_form, ◌>>=◌, fixed_at, signed_at, unsigned_at, number_at, string_at}
+use Rattle.file_formats.specs.declared.dwarf_forms.Layout.TheVariants.{Numbered, Signed, Text, Address, Reference, Passed, Block}
+use Rattle.file_formats.specs.DwarfReads.{Input, At, Read, ReadFault, is_unknown_form, ◌>>=◌, offset_size, fixed_at, signed_at, unsigned_at, number_at, string_at}
 
 -- a form's code, and how its values stand in the bytes
 pub record FormRow : Type 0 where
@@ -37,7 +37,7 @@ form_table =
     form_row DW_FORM_SDATA Signed ∷
     form_row DW_FORM_STRP (Numbered Offset Str) ∷
     form_row DW_FORM_UDATA (Numbered Leb Number) ∷
-    form_row DW_FORM_REF_ADDR (Numbered Offset Other) ∷
+    form_row DW_FORM_REF_ADDR Reference ∷
     form_row DW_FORM_REF1 (Passed 1) ∷
     form_row DW_FORM_REF2 (Passed 2) ∷
     form_row DW_FORM_REF4 (Passed 4) ∷
@@ -75,6 +75,11 @@ pub data Raw : Type 0 where
   inline : List ℕ → Raw
   passed_by : Raw
 
+-- the size of the form ref_addr: that of an address in version 2 (DWARF 2, section 7.5.4, "Attribute Encodings"), and that of a place
+-- in a section from version 3 on (DWARF 3, the same section)
+abbrev pub reference_size : Input → ℕ
+reference_size s = if s.version == ADDRESS_REF_VERSION then s.address_size else offset_size s.wide
+
 -- the value of a layout at the place
 abbrev pub layout_at : Input → Layout → ℕ → Read Raw
 layout_at s (Numbered width sense) p =
@@ -82,6 +87,7 @@ layout_at s (Numbered width sense) p =
 layout_at s Signed p = signed_at s p >>= λ n. Ok (record { value = passed_by; next = n.next })
 layout_at s Text p = string_at s p >>= λ t. Ok (record { value = inline t.value; next = t.next })
 layout_at s Address p = fixed_at s s.address_size p (λ _. passed_by)
+layout_at s Reference p = fixed_at s (reference_size s) p (λ _. passed_by)
 layout_at s (Passed n) p = fixed_at s n p (λ _. passed_by)
 layout_at s (Block width) p = number_at s width p >>= λ n. fixed_at s n.value n.next (λ _. passed_by)
 

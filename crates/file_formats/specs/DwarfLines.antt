@@ -1,24 +1,26 @@
--- Line tables (DWARF 5, section 6.2.4, "The Line Number Program Header", and section 6.2.4.1, "Standard Content
--- Descriptions"): the directories and files that a table's header lists.
-use Rattle.std.specs.Prelude.{◌≡◌, ℕ, ◌+◌, ◌≤◌, List, [], ◌∷◌, Bool, Option, Some, None, Ok, not, ◌||◌, ◌==◌, nat_le, nat_lt, if◌then◌else◌, length, map, slice_index}
+-- Line tables (DWARF 5, section 6.2.4, "The Line Number Program Header", and section 6.2.4.1, "Standard Content Descriptions";
+-- DWARF 2, section 6.2.4, "The Statement Program Prologue"; DWARF 3 and 4, section 6.2.4, "The Line Number Program Header"): the
+-- directories and files that a table's header lists.
+use Rattle.std.specs.Prelude.{◌≡◌, ◌≢◌, ℕ, ◌≤◌, List, [], ◌∷◌, Bool, true, false, Option, Some, None, Ok, ◌==◌, length, map}
 use Rattle.std.specs.Option.{option_map, option_and_then, option_or}
 use Rattle.std.specs.Result.{result_ok}
 use Rattle.file_formats.specs.declared.encoding.Order.{Order}
 use Rattle.file_formats.specs.declared.dwarf_forms.Width.TheVariants.{One}
-use Rattle.file_formats.specs.declared.dwarf_units.TheConstants.{DWARF_VERSION}
-use Rattle.file_formats.specs.declared.dwarf_lines.TheConstants.{DW_LNCT_PATH, DW_LNCT_DIRECTORY_INDEX, DW_LNCT_TIMESTAMP, DW_LNCT_SIZE, DW_LNCT_MD5, ADDRESS_SIZE_PLACE, HEADER_LENGTH_PLACE, LINE_PARAMETERS_SIZE}
+use Rattle.file_formats.specs.declared.dwarf_units.TheConstants.{OLDEST_VERSION, DWARF_VERSION}
+use Rattle.file_formats.specs.declared.dwarf_lines.TheConstants.{DW_LNCT_PATH, DW_LNCT_DIRECTORY_INDEX, DW_LNCT_TIMESTAMP, DW_LNCT_SIZE, DW_LNCT_MD5, ADDRESS_SIZE_PLACE, HEADER_LENGTH_PLACE, OLD_HEADER_LENGTH_PLACE, LINE_PARAMETERS_SIZE, OLD_LINE_PARAMETERS_SIZE, OPERATIONS_VERSION}
 use Rattle.file_formats.specs.declared.dwarf_lines.LineHead.{LineHead}
 use Rattle.file_formats.specs.declared.dwarf_lines.FieldFormat.{FieldFormat}
-use Rattle.file_formats.specs.Numbers.{bytes_at, number}
-use Rattle.file_formats.specs.DwarfReads.{Input, At, offset_size, unsigned_at, number_at}
+use Rattle.file_formats.specs.DwarfReads.{Input, At, unsigned_at, number_at, string_at}
 use Rattle.file_formats.specs.DwarfForms.{Raw, direct_at}
-use Rattle.file_formats.specs.DwarfTexts.{Texts, FormValue, number_is, text_is, number_within, value_of}
+use Rattle.file_formats.specs.DwarfTexts.{Texts, FormValue, number_is, text_is, value_of}
 use Rattle.file_formats.specs.DwarfLengths.{Piece, piece_at}
 use Rattle.file_formats.specs.DwarfSequences.{Along}
 use Rattle.file_formats.specs.DwarfUnits.{where_named}
+use Rattle.file_formats.specs.DwarfLineHeads.{line_head}
 
--- the version that is read, the content types and the places of the header have these numbers
+-- the versions that are read, the content types and the places and sizes of the header have these numbers
 pub record LineCodes : Type 0 where
+  pub oldest : OLDEST_VERSION ≡ 2
   pub version : DWARF_VERSION ≡ 5
   pub path : DW_LNCT_PATH ≡ 0x1
   pub directory_index : DW_LNCT_DIRECTORY_INDEX ≡ 0x2
@@ -27,38 +29,10 @@ pub record LineCodes : Type 0 where
   pub md5 : DW_LNCT_MD5 ≡ 0x5
   pub address_size : ADDRESS_SIZE_PLACE ≡ 2
   pub header_length : HEADER_LENGTH_PLACE ≡ 4
+  pub old_header_length : OLD_HEADER_LENGTH_PLACE ≡ 2
   pub parameters : LINE_PARAMETERS_SIZE ≡ 5
-
--- the place behind header_length, from which that counts
-abbrev pub behind_header_length : Bool → ℕ
-behind_header_length wide = HEADER_LENGTH_PLACE + offset_size wide
-
--- the place of opcode_base: behind five numbers of one byte each
-abbrev pub opcode_base_place : Bool → ℕ
-opcode_base_place wide = behind_header_length wide + LINE_PARAMETERS_SIZE
-
--- the place where the lists begin: behind opcode_base and the lengths of the opcodes below it, of one byte each
-abbrev pub lists_place : Piece → ℕ
-lists_place table = opcode_base_place table.wide + slice_index table.bytes (opcode_base_place table.wide)
-
--- the header of this header_length
-abbrev pub head_of_length : Piece → ℕ → LineHead
-head_of_length table n = record {
-  address_size = slice_index table.bytes ADDRESS_SIZE_PLACE;
-  lists = lists_place table;
-  end = behind_header_length table.wide + n;
-}
-
--- the header: version (2 bytes), address_size (1), segment_selector_size (1), header_length (4 or 8), five numbers (1 each),
--- opcode_base (1) and so many lengths less one (1 each); none where it is cut, of another version, or opcode_base is 0
-unfoldable pub line_head : Order → Piece → Option LineHead
-line_head order table =
-    if nat_le (length table.bytes) (opcode_base_place table.wide)
-    || not (number order (bytes_at table.bytes 0 2) == DWARF_VERSION)
-    || (slice_index table.bytes (opcode_base_place table.wide) == 0)
-    || nat_lt (length table.bytes) (lists_place table) then None
-    else option_map (λ n. head_of_length table n)
-    (number_within order table.bytes HEADER_LENGTH_PLACE (offset_size table.wide))
+  pub old_parameters : OLD_LINE_PARAMETERS_SIZE ≡ 4
+  pub operations : OPERATIONS_VERSION ≡ 4
 
 -- any number of values, one behind the other: a relation of place, value and the place behind holds of each
 pub data Row {A : Type 0} (R : ℕ → A → ℕ → Type 0) : ℕ → List A → ℕ → Type 0 where
@@ -135,8 +109,9 @@ pub record IsLineList (s : Input) (texts : Texts) (p : ℕ) (entries : List Line
   pub row : Row (IsLineEntry s texts fields) count.next entries q
   pub number : length entries ≡ count.value
 
--- what a line table lists: its directories' paths, and its files
+-- what a line table lists, by its version: its directories' paths, and its files
 pub record LineTable : Type 0 where
+  pub version : ℕ
   pub directories : List (Option (List ℕ))
   pub files : List LineEntry
 
@@ -150,10 +125,61 @@ pub record AreLineLists (s : Input) (texts : Texts) (p end : ℕ) (table : LineT
   pub second : IsLineList s texts directories_end table.files files_end
   pub within : files_end ≤ end
 
+-- a text that isn't empty, from place p to place q
+pub record IsNamed (s : Input) (p : ℕ) (text : List ℕ) (q : ℕ) : Type 0 where
+  pub stands : string_at s p ≡ Ok (record { value = text; next = q })
+  pub some : text ≢ []
+
+-- an include directory of versions 2 to 4, from place p to place q
+pub record IsIncludeDirectory (s : Input) (p : ℕ) (directory : Option (List ℕ)) (q : ℕ) : Type 0 where
+  pub path : List ℕ
+  pub named : IsNamed s p path q
+  pub says : directory ≡ Some path
+
+-- a file of versions 2 to 4, from place p to place q: its path, and three numbers, the index of its directory, the time of its last
+-- change and its length
+pub record IsFileName (s : Input) (p : ℕ) (file : LineEntry) (q : ℕ) : Type 0 where
+  pub path : List ℕ
+  pub path_end : ℕ
+  pub named : IsNamed s p path path_end
+  pub index : At ℕ
+  pub directory : unsigned_at s path_end ≡ Ok index
+  pub time : At ℕ
+  pub changed : unsigned_at s index.next ≡ Ok time
+  pub size : At ℕ
+  pub sized : unsigned_at s time.next ≡ Ok size
+  pub behind : q ≡ size.next
+  pub says : file ≡ record { path = Some path; directory = Some index.value }
+
+-- a list of versions 2 to 4, from place p to place q: any number of items, and an empty text
+pub record IsEndedList {A : Type 0} (Item : ℕ → A → ℕ → Type 0) (s : Input) (p : ℕ) (items : List A) (q : ℕ) : Type 0 where
+  pub last : ℕ
+  pub row : Row Item p items last
+  pub ended : string_at s last ≡ Ok (record { value = []; next = q })
+
+-- the lists of versions 2 to 4 from place p on: the include directories and then the files, which end by place end at the latest
+pub record AreEndedLists (s : Input) (p end : ℕ) (table : LineTable) : Type 0 where
+  pub directories_end : ℕ
+  pub first : IsEndedList (IsIncludeDirectory s) s p table.directories directories_end
+  pub files_end : ℕ
+  pub second : IsEndedList (IsFileName s) s directories_end table.files files_end
+  pub within : files_end ≤ end
+
+-- the lists of a version from place p on
+abbrev pub AreLists : Bool → Input → Texts → ℕ → ℕ → LineTable → Type 0
+AreLists true s texts p end table = AreLineLists s texts p end table
+AreLists false s texts p end table = AreEndedLists s p end table
+
 -- the table's bytes, in its own format
 abbrev pub line_input : Order → Piece → LineHead → Input
 line_input order table head =
-    record { bytes = table.bytes; order = order; wide = table.wide; address_size = head.address_size }
+    record { bytes = table.bytes; order = order; wide = table.wide; address_size = head.address_size; version = head.version }
+
+-- what a table of this header lists
+pub record IsListed (texts : Texts) (piece : Piece) (head : LineHead) (table : LineTable) : Type 0 where
+  pub version : table.version ≡ head.version
+  pub lists : AreLists (head.version == DWARF_VERSION) (line_input texts.order piece head) (record texts { wide = piece.wide })
+      head.lists head.end table
 
 -- the table behind the initial length at place p of .debug_line; its texts' places are of its own format. There is none where
 -- it can't be read
@@ -162,5 +188,4 @@ pub record IsLineTable (lines : List ℕ) (p : ℕ) (texts : Texts) (table : Lin
   pub stands : piece_at texts.order lines p ≡ Some piece
   pub head : LineHead
   pub header : line_head texts.order piece.value ≡ Some head
-  pub lists : AreLineLists (line_input texts.order piece.value head) (record texts { wide = piece.value.wide })
-      head.lists head.end table
+  pub listed : IsListed texts piece.value head table

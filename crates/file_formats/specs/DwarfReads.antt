@@ -8,12 +8,14 @@ use Rattle.file_formats.specs.declared.dwarf_forms.Width.TheVariants.{One, Two, 
 use Rattle.file_formats.specs.Numbers.{bytes_at, number}
 use Rattle.file_formats.specs.Leb128.{continued, uleb_at, sleb_at}
 
--- the bytes that values stand in, their order, whether their format is the 64-bit one, and the size of an address
+-- the bytes that values stand in, their order, whether their format is the 64-bit one, the size of an address, and the version of the
+-- unit or table
 pub record Input : Type 0 where
   pub bytes : List ℕ
   pub order : Order
   pub wide : Bool
   pub address_size : ℕ
+  pub version : ℕ
 
 -- a value, and the place where what follows it begins
 pub record At (A : Type 0) : Type 0 where

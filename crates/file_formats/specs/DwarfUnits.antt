@@ -1,10 +1,11 @@
--- Units and their first entries (DWARF 5, section 7.5.1, "Unit Headers", and section 7.5.2, "Debugging Information Entry"):
--- the units of .debug_info, and of a unit's first entry the three attributes that lead to its sources.
-use Rattle.std.specs.Prelude.{◌≡◌, ℕ, ◌+◌, List, [], ◌∷◌, Bool, false, Option, Some, None, Ok, not, ◌||◌, ◌==◌, nat_le, nat_lt, if◌then◌else◌, length, slice_index, drop}
+-- Units and their first entries (DWARF 5, section 7.5.1, "Unit Headers", and section 7.5.2, "Debugging Information Entry";
+-- DWARF 2, 3 and 4, section 7.5.1, "Compilation Unit Header"): the units of .debug_info, and of a unit's first entry the three
+-- attributes that lead to its sources.
+use Rattle.std.specs.Prelude.{◌≡◌, ℕ, ◌+◌, List, [], ◌∷◌, Bool, false, Option, Some, None, Ok, not, ◌||◌, ◌&&◌, ◌==◌, nat_le, nat_lt, if◌then◌else◌, length, slice_index, drop}
 use Rattle.std.specs.Option.{option_and_then, option_or}
 use Rattle.file_formats.specs.declared.encoding.Order.{Order}
 use Rattle.file_formats.specs.declared.dwarf_forms.Sense.TheVariants.{Place}
-use Rattle.file_formats.specs.declared.dwarf_units.TheConstants.{DWARF_VERSION, DW_UT_COMPILE, DW_UT_TYPE, DW_UT_PARTIAL, DW_UT_SKELETON, DW_UT_SPLIT_COMPILE, DW_UT_SPLIT_TYPE, DW_AT_STMT_LIST, DW_AT_COMP_DIR, DW_AT_STR_OFFSETS_BASE}
+use Rattle.file_formats.specs.declared.dwarf_units.TheConstants.{OLDEST_VERSION, DWARF_VERSION, DW_UT_COMPILE, DW_UT_TYPE, DW_UT_PARTIAL, DW_UT_SKELETON, DW_UT_SPLIT_COMPILE, DW_UT_SPLIT_TYPE, DW_AT_STMT_LIST, DW_AT_COMP_DIR, DW_AT_STR_OFFSETS_BASE}
 use Rattle.file_formats.specs.declared.dwarf_units.UnitHead.{UnitHead}
 use Rattle.file_formats.specs.declared.dwarf_units.Pair.{Pair}
 use Rattle.file_formats.specs.Numbers.{bytes_at, number}
@@ -39,18 +40,43 @@ added_size wide unit_type =
     else (if (unit_type == DW_UT_TYPE) || (unit_type == DW_UT_SPLIT_TYPE) then Some (8 + offset_size wide) else None))
 
 -- the header of so many bytes, none where the unit is shorter
-abbrev pub head_of_size : Piece → ℕ → ℕ → Option UnitHead
-head_of_size unit offset size =
+abbrev pub head_of_size : Piece → ℕ → ℕ → ℕ → ℕ → Option UnitHead
+head_of_size unit version address_place offset size =
     if nat_le size (length unit.bytes)
-    then Some (record { address_size = slice_index unit.bytes 3; debug_abbrev_offset = offset; size = size })
+    then Some (record {
+      version = version;
+      address_size = slice_index unit.bytes address_place;
+      debug_abbrev_offset = offset;
+      size = size;
+    })
     else None
 
--- the header: version (2 bytes), unit_type (1), address_size (1), debug_abbrev_offset (4 or 8), and what the type adds
+-- a unit's version, of two bytes
+abbrev pub unit_version : Order → Piece → ℕ
+unit_version order unit = number order (bytes_at unit.bytes 0 2)
+
+-- version 5: version (2 bytes), unit_type (1), address_size (1), debug_abbrev_offset (4 or 8), and what the type adds
+abbrev pub typed_head : Order → Piece → Option UnitHead
+typed_head order unit =
+    option_and_then (λ added. option_and_then (λ offset. head_of_size unit DWARF_VERSION 3 offset (4 + offset_size unit.wide + added))
+    (number_within order unit.bytes 4 (offset_size unit.wide))) (added_size unit.wide (slice_index unit.bytes 2))
+
+-- versions 2 to 4: version (2 bytes), debug_abbrev_offset (4 or 8), address_size (1)
+abbrev pub untyped_head : Order → Piece → ℕ → Option UnitHead
+untyped_head order unit version =
+    option_and_then (λ offset. head_of_size unit version (2 + offset_size unit.wide) offset (3 + offset_size unit.wide))
+    (number_within order unit.bytes 2 (offset_size unit.wide))
+
+-- a version that is read
+abbrev pub is_read_version : ℕ → Bool
+is_read_version version = nat_le OLDEST_VERSION version && nat_le version DWARF_VERSION
+
+-- the header, none where it is cut, or of a version or type that isn't read
 unfoldable pub unit_head : Order → Piece → Option UnitHead
 unit_head order unit =
-    if nat_lt (length unit.bytes) 4 || not (number order (bytes_at unit.bytes 0 2) == DWARF_VERSION) then None
-    else option_and_then (λ added. option_and_then (λ offset. head_of_size unit offset (4 + offset_size unit.wide + added))
-    (number_within order unit.bytes 4 (offset_size unit.wide))) (added_size unit.wide (slice_index unit.bytes 2))
+    if nat_lt (length unit.bytes) 4 || not (is_read_version (unit_version order unit)) then None
+    else (if unit_version order unit == DWARF_VERSION then typed_head order unit
+    else untyped_head order unit (unit_version order unit))
 
 -- the values of the attributes that are read, as they stand; none where the entry doesn't have the attribute
 pub record RawEntry : Type 0 where
@@ -135,7 +161,8 @@ root_of s wide entry =
 
 -- some of the file's bytes, in the format of a unit with this header
 abbrev pub unit_input : DebugSections → Bool → UnitHead → List ℕ → Input
-unit_input s wide head bytes = record { bytes = bytes; order = s.order; wide = wide; address_size = head.address_size }
+unit_input s wide head bytes =
+    record { bytes = bytes; order = s.order; wide = wide; address_size = head.address_size; version = head.version }
 
 -- the bytes behind the unit's header
 abbrev pub entries_input : DebugSections → Piece → UnitHead → Input

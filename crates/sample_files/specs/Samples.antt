@@ -9,6 +9,7 @@ use Rattle.sample_files.specs.declared.shape.Counts.{Counts}
 use Rattle.sample_files.specs.declared.shape.Counts.TheVariants.{Plain, Extended}
 use Rattle.sample_files.specs.declared.samples.TheConstants.{ID_A, ID_B, ID_BIG, ID_C}
 use Rattle.sample_files.specs.declared.debug_bytes.TheConstants.{DEBUG_ABBREV, DEBUG_INFO, DEBUG_LINE, DEBUG_LINE_STR, DEBUG_STR_OFFSETS}
+use Rattle.sample_files.specs.declared.version_four.TheConstants.{FOUR_ABBREV, FOUR_INFO, FOUR_LINE}
 use Rattle.sample_files.specs.Parts.{Part, section, section_without_bytes}
 use Rattle.sample_files.specs.Layout.{plain_layout}
 use Rattle.sample_files.specs.Notes.{gnu_note, note, zero_padded, padded_notes}
@@ -140,6 +141,15 @@ dwarf_five_of id folder =
 -- sample with DWARF 5
 abbrev pub dwarf_five : List ℕ
 dwarf_five = dwarf_five_of ID_B (codes "/w/src")
+
+-- sample with DWARF 4
+abbrev pub dwarf_four : List ℕ
+dwarf_four =
+    plain_layout (shared_object Plain)
+    (build_id_part Little ID_B ∷ text_part
+    ∷ debug_part (codes ".debug_abbrev") FOUR_ABBREV
+    ∷ debug_part (codes ".debug_info") FOUR_INFO
+    ∷ debug_part (codes ".debug_line") FOUR_LINE ∷ [])
 
 -- sample executable, of an id
 abbrev pub executable_of : List ℕ → List ℕ

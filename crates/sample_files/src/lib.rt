@@ -11,6 +11,7 @@ mod notes;
 mod parts;
 mod samples;
 mod shape;
+mod version_four;
 
 pub use codes::{
     EM_PPC, EM_X86_64, ET_DYN, ET_EXEC, NT_GNU_BUILD_ID, SHF_ALLOC, SHF_COMPRESSED, SHF_EXECINSTR,
@@ -26,3 +27,4 @@ pub use samples::{
     null_debug,
 };
 pub use shape::{Class, Counts, Order, Shape};
+pub use version_four::dwarf_four;

@@ -36,7 +36,7 @@ pub const ID_C: [u8; 20] = [
 /// The id of the sample 32-bit big-endian debug file.
 pub const ID_BIG: [u8; 8] = [0xa0, 0xa1, 0xa2, 0xa3, 0xa4, 0xa5, 0xa6, 0xa7];
 
-fn shared_object(counts: Counts) -> Shape
+pub(crate) fn shared_object(counts: Counts) -> Shape
     ensures { result ≡ samples.shared_object counts }
 {
     Shape {
@@ -61,7 +61,7 @@ fn big_program(counts: Counts) -> Shape
 }
 
 /// The section of a build-id's note.
-fn build_id(note: &[u8]) -> Section<'_>
+pub(crate) fn build_id(note: &[u8]) -> Section<'_>
     requires { length note.now < 2 ^ 32 }
     ensures { result ≡ section (codes ".note.gnu.build-id") SHT_NOTE SHF_ALLOC 4 note.now }
 {
@@ -84,7 +84,7 @@ fn flagged<'a>(flags: u32) -> Section<'a>
     Section::new(".text", SHT_PROGBITS, flags, 16, &[0xc3])
 }
 
-fn text<'a>() -> Section<'a>
+pub(crate) fn text<'a>() -> Section<'a>
     ensures { result ≡ samples.text_part }
 {
     flagged(SHF_ALLOC + SHF_EXECINSTR)
@@ -97,7 +97,7 @@ fn bare_text<'a>(alignment: u32, size: u32) -> Section<'a>
     Section::without_bytes(".text", SHF_ALLOC + SHF_EXECINSTR, alignment, size)
 }
 
-fn debug<'a>(name: &'a str, contents: &'a [u8]) -> Section<'a>
+pub(crate) fn debug<'a>(name: &'a str, contents: &'a [u8]) -> Section<'a>
     requires { length contents.now < 2 ^ 32 }
     ensures { result ≡ samples.debug_part name.now contents.now }
 {

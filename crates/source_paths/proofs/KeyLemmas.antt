@@ -37,7 +37,7 @@ module _ (s : DebugSections) where
       stands = h.stands.stands;
       head = h.stands.head;
       header = h.stands.header;
-      lists = h.stands.lists;
+      listed = record { version = h.stands.listed.version; lists = h.stands.listed.lists };
     };
     file = h.file;
   }

@@ -7,12 +7,13 @@ use Rattle.std.proofs.Math.ListN.{get_or-map}
 use Rattle.std.specs.BTreeSet.{BTreeSet}
 use Rattle.std.specs.List.{slice_index_or}
 use Rattle.dwarf_units.proofs.CaseLemmas.{only_then}
+use Rattle.file_formats.specs.declared.dwarf_units.TheConstants.{DWARF_VERSION}
 use Rattle.file_formats.specs.DwarfLines.{LineEntry, LineTable}
 use Rattle.row_types.specs.declared.limits.TheConstants.{SEPARATOR, PATH_LIMIT}
 use Rattle.row_types.specs.Absolute.{is_absolute}
 use Rattle.source_paths.proofs.AddLemmas.{adds-same}
 use Rattle.source_paths.specs.Adds.{AddsPaths, IsFileFrom, short, where_short}
-use Rattle.row_types.specs.SourcePaths.{behind, within, directory_from, file_from, file_path, first_directory}
+use Rattle.row_types.specs.SourcePaths.{behind, within, directory_from, directory_place, file_from, file_path, first_directory, listed_first}
 use Rattle.row_types.specs.Sources.{IsFileSource, IsOfOne, MayName}
 
 -- a text within a folder that is too long is too long
@@ -81,12 +82,13 @@ short_text folder (Some text) =
       | false ↦ λ e. too_long_behind folder text e
     ] refl
 
-short_directory : (first : Option (List ℕ)) (directories : List (Option (List ℕ))) (index : ℕ)
-    → short (directory_from (short first) directories index) ≡ short (directory_from first directories index)
-short_directory first directories index =
-    elim (index == 0) as (λ v. short (if v then short first else behind (short first) (slice_index_or directories index None))
-    ≡ short (if v then first else behind first (slice_index_or directories index None)))
-    [ true ↦ short_again first | false ↦ short_behind first (slice_index_or directories index None) ]
+short_directory : (version : ℕ) (first : Option (List ℕ)) (directories : List (Option (List ℕ))) (index : ℕ)
+    → short (directory_from version (short first) directories index) ≡ short (directory_from version first directories index)
+short_directory version first directories index =
+    let place = directory_place version index in
+    elim (index == 0) as (λ v. short (if v then short first else behind (short first) (slice_index_or directories place None))
+    ≡ short (if v then first else behind first (slice_index_or directories place None)))
+    [ true ↦ short_again first | false ↦ short_behind first (slice_index_or directories place None) ]
 
 -- folders that are as short are as good
 same_behind : (text folder other : Option (List ℕ)) → short folder ≡ short other
@@ -94,48 +96,57 @@ same_behind : (text folder other : Option (List ℕ)) → short folder ≡ short
 same_behind text folder other e =
     sym (short_behind folder text) ∙ ap (λ f. short (behind f text)) e ∙ short_behind other text
 
-short_file : (first : Option (List ℕ)) (directories : List (Option (List ℕ))) (file : LineEntry)
-    → short (file_from (short first) directories file) ≡ short (file_from first directories file)
-short_file first directories file =
-    same_behind file.path (option_and_then (directory_from (short first) directories) file.directory)
-    (option_and_then (directory_from first directories) file.directory) (in_folder file.directory)
+short_file : (version : ℕ) (first : Option (List ℕ)) (directories : List (Option (List ℕ))) (file : LineEntry)
+    → short (file_from version (short first) directories file) ≡ short (file_from version first directories file)
+short_file version first directories file =
+    same_behind file.path (option_and_then (directory_from version (short first) directories) file.directory)
+    (option_and_then (directory_from version first directories) file.directory) (in_folder file.directory)
   where
-    in_folder : (index : Option ℕ) → short (option_and_then (directory_from (short first) directories) index)
-        ≡ short (option_and_then (directory_from first directories) index)
+    in_folder : (index : Option ℕ) → short (option_and_then (directory_from version (short first) directories) index)
+        ≡ short (option_and_then (directory_from version first directories) index)
     in_folder None = refl
-    in_folder (Some index) = short_directory first directories index
+    in_folder (Some index) = short_directory version first directories index
 
 -- where directories that are too long are left out
-short_listed : (first : Option (List ℕ)) (directories : List (Option (List ℕ))) (index : ℕ)
-    → short (directory_from first (map short directories) index) ≡ short (directory_from first directories index)
-short_listed first directories index =
-    elim (index == 0) as (λ v. short (if v then first else behind first (slice_index_or (map short directories) index None))
-    ≡ short (if v then first else behind first (slice_index_or directories index None))) [
+short_listed : (version : ℕ) (first : Option (List ℕ)) (directories : List (Option (List ℕ))) (index : ℕ)
+    → short (directory_from version first (map short directories) index) ≡ short (directory_from version first directories index)
+short_listed version first directories index =
+    let place = directory_place version index in
+    elim (index == 0) as (λ v. short (if v then first else behind first (slice_index_or (map short directories) place None))
+    ≡ short (if v then first else behind first (slice_index_or directories place None))) [
       | true ↦ refl
-      | false ↦ ap (λ d. short (behind first d)) (get_or-map short directories index None)
-          ∙ short_text first (slice_index_or directories index None)
+      | false ↦ ap (λ d. short (behind first d)) (get_or-map short directories place None)
+          ∙ short_text first (slice_index_or directories place None)
     ]
 
-file_listed : (first : Option (List ℕ)) (directories : List (Option (List ℕ))) (file : LineEntry)
-    → short (file_from first (map short directories) file) ≡ short (file_from first directories file)
-file_listed first directories file =
-    same_behind file.path (option_and_then (directory_from first (map short directories)) file.directory)
-    (option_and_then (directory_from first directories) file.directory) (in_folder file.directory)
+file_listed : (version : ℕ) (first : Option (List ℕ)) (directories : List (Option (List ℕ))) (file : LineEntry)
+    → short (file_from version first (map short directories) file) ≡ short (file_from version first directories file)
+file_listed version first directories file =
+    same_behind file.path (option_and_then (directory_from version first (map short directories)) file.directory)
+    (option_and_then (directory_from version first directories) file.directory) (in_folder file.directory)
   where
-    in_folder : (index : Option ℕ) → short (option_and_then (directory_from first (map short directories)) index)
-        ≡ short (option_and_then (directory_from first directories) index)
+    in_folder : (index : Option ℕ) → short (option_and_then (directory_from version first (map short directories)) index)
+        ≡ short (option_and_then (directory_from version first directories) index)
     in_folder None = refl
-    in_folder (Some index) = short_listed first directories index
+    in_folder (Some index) = short_listed version first directories index
 
-first_listed : (unit : Option (List ℕ)) (directories : List (Option (List ℕ)))
-    → short (first_directory unit (map short directories)) ≡ short (first_directory unit directories)
-first_listed unit [] = refl
-first_listed unit (first ∷ rest) = short_text unit first
+listed_short : (unit : Option (List ℕ)) (directories : List (Option (List ℕ)))
+    → short (listed_first unit (map short directories)) ≡ short (listed_first unit directories)
+listed_short unit [] = refl
+listed_short unit (first ∷ rest) = short_text unit first
+
+first_listed : (version : ℕ) (unit : Option (List ℕ)) (directories : List (Option (List ℕ)))
+    → short (first_directory version unit (map short directories)) ≡ short (first_directory version unit directories)
+first_listed version unit directories =
+    elim (version == DWARF_VERSION) as (λ v. short (if v then listed_first unit (map short directories) else unit)
+    ≡ short (if v then listed_first unit directories else unit))
+    [ true ↦ listed_short unit directories | false ↦ refl ]
 
 -- a file has the same path where directory 0 and the others are too long
-all_short : (first : Option (List ℕ)) (directories : List (Option (List ℕ))) (file : LineEntry)
-    → short (file_from (short first) (map short directories) file) ≡ short (file_from first directories file)
-all_short first directories file = short_file first (map short directories) file ∙ file_listed first directories file
+all_short : (version : ℕ) (first : Option (List ℕ)) (directories : List (Option (List ℕ))) (file : LineEntry)
+    → short (file_from version (short first) (map short directories) file) ≡ short (file_from version first directories file)
+all_short version first directories file =
+    short_file version first (map short directories) file ∙ file_listed version first directories file
 
 -- a text that names a source is short enough
 where_named : (text : Option (List ℕ)) {path : List ℕ} → MayName text path → MayName (short text) path
@@ -161,15 +172,17 @@ pub same_named : (text other : Option (List ℕ)) → short text ≡ short other
 same_named text other e {path} h = where_short_named other (subst (λ t. MayName t path) e (where_named text h))
 
 -- each file has the path that it has where directories are too long
-pub from_short : (first : Option (List ℕ)) (directories : List (Option (List ℕ))) (file : LineEntry) (path : List ℕ)
-    → IsFileFrom (short first) (map short directories) file path → IsFileFrom first directories file path
-from_short first directories file path =
-    same_named (file_from (short first) (map short directories) file) (file_from first directories file) (all_short first directories file)
+pub from_short : (version : ℕ) (first : Option (List ℕ)) (directories : List (Option (List ℕ))) (file : LineEntry) (path : List ℕ)
+    → IsFileFrom version (short first) (map short directories) file path → IsFileFrom version first directories file path
+from_short version first directories file path =
+    same_named (file_from version (short first) (map short directories) file) (file_from version first directories file)
+    (all_short version first directories file)
 
-pub to_short : (first : Option (List ℕ)) (directories : List (Option (List ℕ))) (file : LineEntry) (path : List ℕ)
-    → IsFileFrom first directories file path → IsFileFrom (short first) (map short directories) file path
-to_short first directories file path =
-    same_named (file_from first directories file) (file_from (short first) (map short directories) file) (sym (all_short first directories file))
+pub to_short : (version : ℕ) (first : Option (List ℕ)) (directories : List (Option (List ℕ))) (file : LineEntry) (path : List ℕ)
+    → IsFileFrom version first directories file path → IsFileFrom version (short first) (map short directories) file path
+to_short version first directories file path =
+    same_named (file_from version first directories file) (file_from version (short first) (map short directories) file)
+    (sym (all_short version first directories file))
 
 -- what stands behind a folder adds the same where the folder is too long
 pub adds_behind : (folder text : Option (List ℕ)) {made : Option (List ℕ)} {old new : BTreeSet (List ℕ)} → made ≡ short folder
@@ -196,36 +209,45 @@ pub one_by_one : {A : Type 0} {P Q : A → List ℕ → Type 0} → ((one : A) (
 one_by_one to list path h = record { one = h.one; among = h.among; has = to h.one path h.has }
 
 -- the files' paths are the same where directories are too long
-pub adds_files : (first : Option (List ℕ)) (directories : List (Option (List ℕ))) (files : List LineEntry) {old new : BTreeSet (List ℕ)}
-    → AddsPaths (IsOfOne (IsFileFrom (short first) (map short directories)) files) old new
-    → AddsPaths (IsOfOne (IsFileFrom first directories) files) old new
-adds_files first directories files a =
-    adds-same (one_by_one (from_short first directories) files) (one_by_one (to_short first directories) files) a
+pub adds_files : (version : ℕ) (first : Option (List ℕ)) (directories : List (Option (List ℕ))) (files : List LineEntry)
+    {old new : BTreeSet (List ℕ)} → AddsPaths (IsOfOne (IsFileFrom version (short first) (map short directories)) files) old new
+    → AddsPaths (IsOfOne (IsFileFrom version first directories) files) old new
+adds_files version first directories files a =
+    adds-same (one_by_one (from_short version first directories) files) (one_by_one (to_short version first directories) files) a
 
 -- the files of a table add their paths
-pub adds_table : (unit : Option (List ℕ)) (table : LineTable) {first : Option (List ℕ)} {directories : List (Option (List ℕ))}
-    {files : List LineEntry} {old new : BTreeSet (List ℕ)} → first ≡ short (first_directory unit (map short table.directories))
-    → directories ≡ map short table.directories → files ≡ table.files → AddsPaths (IsOfOne (IsFileFrom first directories) files) old new
+pub adds_table : (unit : Option (List ℕ)) (table : LineTable) {version : ℕ} {first : Option (List ℕ)}
+    {directories : List (Option (List ℕ))} {files : List LineEntry} {old new : BTreeSet (List ℕ)} → version ≡ table.version
+    → first ≡ short (first_directory version unit (map short table.directories)) → directories ≡ map short table.directories
+    → files ≡ table.files → AddsPaths (IsOfOne (IsFileFrom version first directories) files) old new
     → AddsPaths (IsOfOne (IsFileSource unit table) table.files) old new
-adds_table unit table {first} {directories} {files} {old} {new} e d f a =
-    adds_files (first_directory unit table.directories) table.directories table.files
-    (subst (λ x. AddsPaths (IsOfOne (IsFileFrom x (map short table.directories)) table.files) old new)
-    (e ∙ first_listed unit table.directories)
-    (subst (λ x. AddsPaths (IsOfOne (IsFileFrom first x) table.files) old new) d
-    (subst (λ x. AddsPaths (IsOfOne (IsFileFrom first directories) x) old new) f a)))
+adds_table unit table {version} {first} {directories} {files} {old} {new} v e d f a =
+    adds_files table.version (first_directory table.version unit table.directories) table.directories table.files
+    (subst (λ x. AddsPaths (IsOfOne (IsFileFrom table.version x (map short table.directories)) table.files) old new)
+    (e ∙ ap (λ n. short (first_directory n unit (map short table.directories))) v ∙ first_listed table.version unit table.directories)
+    (subst (λ x. AddsPaths (IsOfOne (IsFileFrom table.version first x) table.files) old new) d
+    (subst (λ x. AddsPaths (IsOfOne (IsFileFrom table.version first directories) x) old new) f
+    (subst (λ n. AddsPaths (IsOfOne (IsFileFrom n first directories) files) old new) v a))))
 
 -- a table's file has the path that it has in a unit whose directory is too long
-same_first : (unit : Option (List ℕ)) (directories : List (Option (List ℕ)))
-    → short (first_directory (short unit) directories) ≡ short (first_directory unit directories)
-same_first unit [] = short_again unit
-same_first unit (first ∷ rest) = short_behind unit first
+same_listed : (unit : Option (List ℕ)) (directories : List (Option (List ℕ)))
+    → short (listed_first (short unit) directories) ≡ short (listed_first unit directories)
+same_listed unit [] = short_again unit
+same_listed unit (first ∷ rest) = short_behind unit first
+
+same_first : (version : ℕ) (unit : Option (List ℕ)) (directories : List (Option (List ℕ)))
+    → short (first_directory version (short unit) directories) ≡ short (first_directory version unit directories)
+same_first version unit directories =
+    elim (version == DWARF_VERSION) as (λ v. short (if v then listed_first (short unit) directories else short unit)
+    ≡ short (if v then listed_first unit directories else unit))
+    [ true ↦ same_listed unit directories | false ↦ short_again unit ]
 
 short_unit : (unit : Option (List ℕ)) (table : LineTable) (file : LineEntry)
     → short (file_path (short unit) table file) ≡ short (file_path unit table file)
 short_unit unit table file =
-    sym (short_file (first_directory (short unit) table.directories) table.directories file)
-    ∙ ap (λ f. short (file_from f table.directories file)) (same_first unit table.directories)
-    ∙ short_file (first_directory unit table.directories) table.directories file
+    sym (short_file table.version (first_directory table.version (short unit) table.directories) table.directories file)
+    ∙ ap (λ f. short (file_from table.version f table.directories file)) (same_first table.version unit table.directories)
+    ∙ short_file table.version (first_directory table.version unit table.directories) table.directories file
 
 pub from_unit : (unit : Option (List ℕ)) (table : LineTable) (path : List ℕ)
     → IsOfOne (IsFileSource (short unit) table) table.files path → IsOfOne (IsFileSource unit table) table.files path

@@ -1,14 +1,16 @@
 -- Sections whose texts are the same have the same sources.
-use Rattle.std.proofs.Common.{◌≡◌, ◌↔◌, ℕ, Bool, List, Option, Some, None, refl, sym, ◌∙◌, ap}
+use Rattle.std.proofs.Common.{◌≡◌, ◌↔◌, ℕ, Bool, true, false, List, Option, Some, None, refl, sym, ◌∙◌, ap}
+use Rattle.std.specs.Prelude.{◌==◌}
 use Rattle.std.specs.Option.{option_and_then}
 use Rattle.file_formats.specs.declared.encoding.Order.{Order}
 use Rattle.file_formats.specs.declared.dwarf_forms.Sense.TheVariants.{Number, Place, Str, LineStr, SupStr, StrIndex, Other}
+use Rattle.file_formats.specs.declared.dwarf_units.TheConstants.{DWARF_VERSION}
 use Rattle.file_formats.specs.declared.dwarf_lines.TheConstants.{DW_LNCT_PATH, DW_LNCT_DIRECTORY_INDEX}
 use Rattle.file_formats.specs.declared.dwarf_lines.FieldFormat.{FieldFormat}
 use Rattle.file_formats.specs.DwarfReads.{Input}
 use Rattle.file_formats.specs.DwarfForms.{Raw, numbered, inline, passed_by}
 use Rattle.file_formats.specs.DwarfLengths.{Piece}
-use Rattle.file_formats.specs.DwarfLines.{LineEntry, LineTable, Row, no_more, one_more, IsLineEntry, IsLineList, AreLineLists, IsLineTable, first_value, entry_of, entry_of_path, directory_of, number_of}
+use Rattle.file_formats.specs.DwarfLines.{LineEntry, LineTable, Row, no_more, one_more, IsLineEntry, IsLineList, AreLineLists, AreLists, IsLineTable, line_input, first_value, entry_of, entry_of_path, directory_of, number_of}
 use Rattle.file_formats.specs.DwarfTexts.{Texts, value_of, text_is, indexed_place}
 use Rattle.file_formats.specs.DwarfUnits.{DebugSections, RootEntry, RawEntry, IsRootEntry, section_place, root_of, text_or_none}
 use Rattle.file_formats.specs.Sections.{text_at}
@@ -103,14 +105,24 @@ module _ {a b c d : List ℕ} (strs : AreSameTexts a c) (lines : AreSameTexts b 
       within = h.within;
     }
 
+    -- lists of the versions before 5 name no texts by their places
+    any_lists : (five : Bool) (s : Input) (p end : ℕ) (table : LineTable)
+        → AreLists five s (these offsets order a b base wide) p end table → AreLists five s (these offsets order c d base wide) p end table
+    any_lists true s p end table h = line_lists h
+    any_lists false s p end table h = h
+
   table_same : {section : List ℕ} {p : ℕ} {base : Option ℕ} {wide : Bool} {table : LineTable}
       → IsLineTable section p (these offsets order a b base wide) table → IsLineTable section p (these offsets order c d base wide) table
-  table_same {base} h = record {
+  table_same {base} {table = table} h = record {
     piece = h.piece;
     stands = h.stands;
     head = h.head;
     header = h.header;
-    lists = line_lists base h.piece.value.wide h.lists;
+    listed = record {
+      version = h.listed.version;
+      lists = any_lists base h.piece.value.wide (h.head.version == DWARF_VERSION) (line_input order h.piece.value h.head) h.head.lists
+          h.head.end table h.listed.lists;
+    };
   }
 
   module _ (info abbrevs section : List ℕ) where

@@ -27,6 +27,6 @@ pub record AddsPaths (P : List ℕ → Type 0) (old new : BTreeSet (List ℕ)) :
   pub added : (path : List ℕ) → P path → Has new path
   pub only : (path : List ℕ) → Has new path → Has old path ⊎ P path
 
--- a path of a file, where directory 0 has this path
-abbrev pub IsFileFrom : Option (List ℕ) → List (Option (List ℕ)) → LineEntry → List ℕ → Type 0
-IsFileFrom first directories file path = MayName (file_from first directories file) path
+-- a path of a file of a table of this version, where directory 0 has this path
+abbrev pub IsFileFrom : ℕ → Option (List ℕ) → List (Option (List ℕ)) → LineEntry → List ℕ → Type 0
+IsFileFrom version first directories file path = MayName (file_from version first directories file) path

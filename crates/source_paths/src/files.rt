@@ -1,4 +1,4 @@
-//! The paths of a line table's files. DWARF 5, section 6.2.4.
+//! The paths of a line table's files. DWARF 2 to 5, section 6.2.4.
 
 ghost use Rattle.std.specs.Prelude.{map, OnOk};
 ghost use Rattle.std.specs.Option.{option_copied};
@@ -49,39 +49,41 @@ fn add_in_folder(
     }
 }
 
-/// Adds the path of a file, where directory 0 has this path.
+/// Adds the path of a file of a table of this version, where directory 0 has this path.
 fn add_file(
     alloc: Global,
+    version: u16,
     first: Option<&[u8]>,
     dirs: &[Option<&[u8]>],
     file: &LineFile<'_>,
     paths: &mut Found,
 ) -> Result<(), AllocError>
     ensures { OnOk result (AddsPaths
-        (IsFileFrom (option_copied first.entry) (map option_copied dirs.now) (file_facts file.now))
+        (IsFileFrom version (option_copied first.entry) (map option_copied dirs.now) (file_facts file.now))
         paths.old paths.new) }
 {
     match file.dir {
         None => add_text(alloc, None, file.path, paths),
         Some(0) => add_text(alloc, first, file.path, paths),
-        Some(index) => add_in_folder(alloc, first, listed(dirs, index), file.path, paths),
+        Some(index) => add_in_folder(alloc, first, listed(version, dirs, index), file.path, paths),
     }
 }
 
-/// Adds the paths of files, where directory 0 has this path.
+/// Adds the paths of files of a table of this version, where directory 0 has this path.
 fn add_each(
     alloc: Global,
+    version: u16,
     first: Option<&[u8]>,
     dirs: &[Option<&[u8]>],
     files: &[LineFile<'_>],
     paths: &mut Found,
 ) -> Result<(), AllocError>
     ensures { OnOk result (AddsPaths
-        (IsOfOne (IsFileFrom (option_copied first.entry) (map option_copied dirs.now))
+        (IsOfOne (IsFileFrom version (option_copied first.entry) (map option_copied dirs.now))
         (map file_facts files.now)) paths.old paths.new) }
 {
     for file in files {
-        add_file(alloc, first, dirs, file, paths)?;
+        add_file(alloc, version, first, dirs, file, paths)?;
     }
     Ok(())
 }
@@ -99,9 +101,10 @@ pub(crate) fn add_files(
         paths.old paths.new) }
 {
     let dirs = short_texts(alloc, table.dirs.as_slice())?;
-    let first = first_directory(alloc, unit, dirs.as_slice())?;
+    let first = first_directory(alloc, table.version, unit, dirs.as_slice())?;
     add_each(
         alloc,
+        table.version,
         lent(&first),
         dirs.as_slice(),
         table.files.as_slice(),

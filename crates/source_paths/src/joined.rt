@@ -1,14 +1,15 @@
-//! Paths of files, joined from their parts. DWARF 5, section 6.2.4.1.
+//! Paths of files, joined from their parts. DWARF 5, section 6.2.4.1; DWARF 2 to 4, section 6.2.4.
 
 ghost use Rattle.std.specs.Prelude.{◌≡◌, map, None, IfOk};
 ghost use Rattle.std.specs.List.{slice_index_or};
 ghost use Rattle.std.specs.Option.{option_copied, option_map};
 ghost use Rattle.row_types.specs.Absolute.{is_absolute};
-ghost use Rattle.row_types.specs.SourcePaths.{behind, first_directory, within};
+ghost use Rattle.row_types.specs.SourcePaths.{behind, directory_place, first_directory, listed_first, within};
 ghost use Rattle.dwarf_forms.specs.TextBytes.{text_said};
 ghost use Rattle.source_paths.specs.Adds.{short, where_short};
 
 use dwarf_forms::Text;
+use file_formats::dwarf_units::DWARF_VERSION;
 use row_types::{PATH_LIMIT, SEPARATOR};
 use std::alloc::{AllocError, Global};
 
@@ -91,14 +92,14 @@ pub(crate) fn behind(
     }
 }
 
-/// The path of directory 0 of a table, in a unit of this directory.
-pub(crate) fn first_directory(
+/// The path of the first directory that a table lists, in a unit of this directory.
+fn listed_first(
     alloc: Global,
     unit: Option<&[u8]>,
     dirs: &[Option<&[u8]>],
 ) -> Result<Option<Vec<u8>>, AllocError>
     ensures { IfOk result (λ path. option_map (λ v. v.items) path
-        ≡ short (first_directory (option_copied unit.entry) (map option_copied dirs.now))) }
+        ≡ short (listed_first (option_copied unit.entry) (map option_copied dirs.now))) }
 {
     match dirs {
         [] => unit.map_or(Ok(None), |unit| copied(alloc, unit)),
@@ -106,11 +107,40 @@ pub(crate) fn first_directory(
     }
 }
 
-/// The path that a table lists for a directory, None where it lists none.
-pub(crate) fn listed<'a>(dirs: &[Option<&'a [u8]>], index: u64) -> Option<&'a [u8]>
-    ensures { option_copied result ≡ slice_index_or (map option_copied dirs.now) index None }
+/// The path of directory 0 of a table of this version, in a unit of this directory.
+pub(crate) fn first_directory(
+    alloc: Global,
+    version: u16,
+    unit: Option<&[u8]>,
+    dirs: &[Option<&[u8]>],
+) -> Result<Option<Vec<u8>>, AllocError>
+    ensures { IfOk result (λ path. option_map (λ v. v.items) path
+        ≡ short (first_directory version (option_copied unit.entry) (map option_copied dirs.now))) }
 {
-    match dirs.get(index as usize) {
+    if version == DWARF_VERSION {
+        return listed_first(alloc, unit, dirs);
+    }
+    unit.map_or(Ok(None), |unit| copied(alloc, unit))
+}
+
+/// The place in its list of the directory of an index other than 0.
+fn directory_place(version: u16, index: u64) -> u64
+    ensures { result ≡ directory_place version index }
+{
+    if version == DWARF_VERSION {
+        index
+    } else {
+        index.saturating_sub(1)
+    }
+}
+
+/// The path that a table of this version lists for a directory other than directory 0, None where it
+/// lists none.
+pub(crate) fn listed<'a>(version: u16, dirs: &[Option<&'a [u8]>], index: u64) -> Option<&'a [u8]>
+    ensures { option_copied result
+        ≡ slice_index_or (map option_copied dirs.now) (directory_place version index) None }
+{
+    match dirs.get(directory_place(version, index) as usize) {
         Some(path) => *path,
         None => None,
     }

@@ -35,6 +35,23 @@ pub fn table(rt: &impl Abort, alloc: Global, lists: &[&[u8]]) -> Vec<u8> {
     bytes
 }
 
+/// A table of a version from 2 to 4 with these lists, of the 32-bit format and without opcodes.
+pub fn older_table(rt: &impl Abort, alloc: Global, version: u8, lists: &[u8]) -> Vec<u8> {
+    let parameters: &[u8] = if version < 4 {
+        b"\x01\x01\xfb\x0e\x01"
+    } else {
+        b"\x01\x01\x01\xfb\x0e\x01"
+    };
+    let size = u32::try_from(parameters.len() + lists.len()).unwrap_or(0);
+    let mut bytes = Vec::new(alloc);
+    push(rt, &mut bytes, &size.wrapping_add(6).to_le_bytes());
+    push(rt, &mut bytes, &[version, 0]);
+    push(rt, &mut bytes, &size.to_le_bytes());
+    push(rt, &mut bytes, parameters);
+    push(rt, &mut bytes, lists);
+    bytes
+}
+
 /// Writes a part behind the others.
 fn push(rt: &impl Abort, bytes: &mut Vec<u8>, part: &[u8]) {
     bytes.extend_from_slice(part).expect(rt, "memory");
@@ -88,10 +105,15 @@ pub fn table_said<'a>(
     }
 }
 
+/// Whether the table may be another one for another place in .debug_str_offsets.
+pub fn is_indexed(rt: &impl Abort, alloc: Global, line: &[u8]) -> bool {
+    read_table(alloc, line, 0, &strings(Order::Little))
+        .expect(rt, "memory")
+        .indexed
+}
+
 /// Whether a form in the table of these lists names texts by indexes.
 pub fn has_indexes(rt: &impl Abort, alloc: Global, lists: &[u8]) -> bool {
     let line = table(rt, alloc, &[lists]);
-    read_table(alloc, line.as_slice(), 0, &strings(Order::Little))
-        .expect(rt, "memory")
-        .indexed
+    is_indexed(rt, alloc, line.as_slice())
 }

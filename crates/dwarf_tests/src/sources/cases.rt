@@ -8,7 +8,7 @@ use std::alloc::Global;
 use std::process::Abort;
 
 /// Code 1 has comp_dir by string and stmt_list by data4, code 2 has stmt_list alone.
-static ABBREV: &[u8] = b"\x01\x11\0\x1b\x08\x10\x06\0\0\x02\x11\0\x10\x06\0\0\0";
+pub static ABBREV: &[u8] = b"\x01\x11\0\x1b\x08\x10\x06\0\0\x02\x11\0\x10\x06\0\0\0";
 
 /// Writes a part behind the others.
 pub fn push(rt: &impl Abort, bytes: &mut Vec<u8>, part: &[u8]) {
@@ -16,7 +16,7 @@ pub fn push(rt: &impl Abort, bytes: &mut Vec<u8>, part: &[u8]) {
 }
 
 /// A unit of this directory whose line table begins at 0.
-fn push_unit(rt: &impl Abort, info: &mut Vec<u8>, directory: Option<&[u8]>) {
+pub fn push_unit(rt: &impl Abort, info: &mut Vec<u8>, directory: Option<&[u8]>) {
     let size = directory.map_or(0, |text| u32::try_from(text.len()).unwrap_or(0));
     let size = size.wrapping_add(if directory.is_some() { 14 } else { 13 });
     push(rt, info, &size.to_le_bytes());
@@ -33,7 +33,7 @@ fn push_unit(rt: &impl Abort, info: &mut Vec<u8>, directory: Option<&[u8]>) {
 }
 
 /// The lists of these directories and files, each with its directory's index.
-fn lists_of(rt: &impl Abort, alloc: Global, dirs: &[&[u8]], files: &[(&[u8], u8)]) -> Vec<u8> {
+pub fn lists_of(rt: &impl Abort, alloc: Global, dirs: &[&[u8]], files: &[(&[u8], u8)]) -> Vec<u8> {
     let mut lists = Vec::new(alloc);
     push(rt, &mut lists, b"\x01\x01\x08");
     push(rt, &mut lists, &[u8::try_from(dirs.len()).unwrap_or(0)]);

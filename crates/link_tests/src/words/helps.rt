@@ -13,7 +13,7 @@ Usage: dbgd COMMAND WORDS..
 
 Commands:
   ident FILE                  Prints the build-id of an ELF file, and what the file holds
-  sources FILE                Prints the source paths that the DWARF 5 of a file names
+  sources FILE                Prints the source paths that the DWARF of a file names
   section FILE NAME           Writes the bytes of a section
   scan -d DB [-c N] DIR..     Keeps a row for each file under folders in a store
   query -d DB ID              Prints the rows of a build-id that a store holds

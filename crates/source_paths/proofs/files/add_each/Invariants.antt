@@ -7,5 +7,5 @@ use Rattle.source_paths.proofs.files.add_each.Given as goal
 
 abbrev pub invariant-loop-file : goal.invariant-loop-file
 invariant-loop-file l =
-    AddsPaths (IsOfOne (IsFileFrom (option_copied l.first) (map option_copied l.dirs)) (map file_facts (take l.file-index l.files)))
+    AddsPaths (IsOfOne (IsFileFrom l.version (option_copied l.first) (map option_copied l.dirs)) (map file_facts (take l.file-index l.files)))
     l.initial.paths l.paths

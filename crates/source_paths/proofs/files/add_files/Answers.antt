@@ -18,8 +18,9 @@ returns c =
     ∙ ap (λ (t : LineTable). map short t.directories) c.table.view_is in
     on_ok_weaker c.add_each.result
     (adds_table unit c.args.table.now
+    (ap (λ (t : LineTable). t.version) c.table.view_is)
     (c.lent.ensures ∙ c.in_ok-first.ensures
-    ∙ ap (λ ds. short (first_directory unit ds)) (ap (map option_copied) c.as_slice-2.ensures.value ∙ listed))
+    ∙ ap (λ ds. short (first_directory c.table.inside.version unit ds)) (ap (map option_copied) c.as_slice-2.ensures.value ∙ listed))
     (ap (map option_copied) c.as_slice-3.ensures.value ∙ listed)
     (ap (map file_facts) c.as_slice-4.ensures.value ∙ ap (λ (t : LineTable). t.files) c.table.view_is))
     c.add_each.ensures
