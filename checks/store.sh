@@ -64,6 +64,20 @@ done
 [ $? = 3 ] && [ ! -s "$work/out" ] && [ "$(cat "$work/err")" = 'dbgd: nothing found' ] ||
   differs "query ffff: got $(cat "$work/out" "$work/err")"
 
+# Rows of other editions, the first one's and later ones', go at the first opening, whichever command it is, and a scan reads their
+# files anew.
+for edition in 01 03; do
+  printf "UPDATE kept SET body = CAST(x'%s' || substr(body, 2) AS BLOB);\n" "$edition" | fill "$work/index.db"
+  wants "rows of edition $edition" "$files" "SELECT count(*) FROM kept WHERE substr(body, 1, 1) = x'$edition'"
+  case $edition in
+    01)
+      "$program" query -d "$work/index.db" ffff >"$work/out" 2>&1
+      wants 'rows behind a query' 0 'SELECT count(*) FROM kept' ;;
+  esac
+  "$program" scan -d "$work/index.db" "$tree" >"$work/out" 2>"$work/err" || differs "a scan of edition $edition: $(cat "$work/err")"
+  cmp -s "$work/out" "$work/first" || differs "a scan of edition $edition: $(cat "$work/out")"
+done
+
 # A file that another program holds isn't opened.
 if python3 -c 'import sqlite3' 2>/dev/null; then
   python3 -c 'import sqlite3, subprocess, sys
@@ -96,7 +110,7 @@ other=$work/other.db
 kept_table='CREATE TABLE kept(path TEXT PRIMARY KEY NOT NULL, body BLOB NOT NULL) STRICT;'
 epoch_table='CREATE TABLE epoch(one INTEGER PRIMARY KEY CHECK (one = 1), n INTEGER NOT NULL) STRICT;
   INSERT INTO epoch VALUES (1, 41);'
-row="x'01020000002f6100000000000000006400000000000000000000000001'"
+row="x'02020000002f6100000000000000006400000000000000000000000001'"
 
 # Writes it anew, by these statements.
 makes() { # STATEMENTS
@@ -194,7 +208,7 @@ makes "$kept_table $(awk -v dir="$many/" -v prefix="$prefix" 'BEGIN {
     spelled = name
     gsub(/./, "3&", spelled)
     found = n % 100 ? "0001" : "010102abcd00000000"
-    printf "INSERT INTO kept VALUES (%c%s%s%c, x%c01%02x%02x0000%s%s0000000000000000640000000000000000000000%s%c);\n",
+    printf "INSERT INTO kept VALUES (%c%s%s%c, x%c02%02x%02x0000%s%s0000000000000000640000000000000000000000%s%c);\n",
       39, dir, name, 39, 39, size % 256, int(size / 256), prefix, spelled, found, 39
   }
   print "COMMIT;"

@@ -15,12 +15,12 @@ compare() { # SEED FILES WORKERS LINE
     differs "$1 $2 $3: wanted $4, got $(cat "$work/out" "$work/err"), status $status"
 }
 
-forty='trial: 40 files, 20 executables, 20 debuginfo, 20 sources, index b0ba1a7b7d4d48d056cc93d85346c4acea38d99258b091e5c6402141b99b1de3'
+forty='trial: 40 files, 20 executables, 20 debuginfo, 20 sources, index 1d67394e737c8736f98a34978d6ca95b8ac131a37c52c0bbe7579f5a4188394b'
 for workers in 1 2 3 8 64; do
   compare 7 40 "$workers" "$forty"
 done
 
-many='trial: 20000 files, 10000 executables, 10000 debuginfo, 10000 sources, index d28beefb74a7d309fc68d54ce735cf7b1a368b475f9a3bacf2a129bc8f9aa547'
+many='trial: 20000 files, 10000 executables, 10000 debuginfo, 10000 sources, index c2082ea32bbdd846d2f0794d8293dcce87f2ae8e83940f974d68dad592a04b7e'
 for workers in 1 8; do
   compare 1 20000 "$workers" "$many"
 done

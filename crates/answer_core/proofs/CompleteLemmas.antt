@@ -16,7 +16,7 @@ use Rattle.row_types.specs.Row.{RowFacts}
 use Rattle.row_types.specs.Stamp.{StampFacts}
 use Rattle.row_types.specs.declared.identity.Kind.{Kind}
 use Rattle.row_types.specs.declared.identity.Kind.TheVariants as kind
-use Rattle.row_types.specs.declared.limits.TheConstants.{FILE_LIMIT}
+use Rattle.row_types.specs.declared.limits.TheConstants.{FILE_LIMIT, READ_LIMIT}
 use Rattle.row_types.specs.declared.reading.Reading.{Reading}
 use Rattle.row_types.specs.declared.reading.Reading.TheVariants.{Plain, Elf}
 use Rattle.index_rows.specs.Classes.{has_class, is_of_kind}
@@ -32,30 +32,31 @@ use Rattle.answer_check.specs.Certified.{IsCertified, is_of_class}
 use Rattle.answer_check.specs.Passing.{Passes}
 use Rattle.webapi_routes.specs.declared.route.Route.{Route}
 use Rattle.webapi_routes.specs.declared.route.Route.TheVariants.{Debuginfo, Executable, Source, Section, Metrics}
-use Rattle.answer_core.specs.Complete.{SomeWouldPass, WouldPass}
+use Rattle.answer_core.specs.Complete.{SomeWouldPass, WouldPass, size_limit}
 use Rattle.answer_core.specs.Loads.{DoesNotPass, Hand, IsFileMissed, IsSourceMissed, LoadsNothing, NonePasses, ReadsNothing, joined_parts}
 use Rattle.answer_core.specs.declared.candidate.Candidate.{Candidate}
 use Rattle.answer_core.proofs.FileLemmas.{last_failed}
+use Rattle.answer_core.proofs.ReadingLemmas.{identity_read}
 
 -- the load of a source that is there, and gave nothing, failed
-load_failed : (hand : Hand) (route : Route) (one : Candidate) → WouldPass hand route one → (answer : LoadFacts)
-    → FitsLoad hand.version one.path FILE_LIMIT answer → TellsLoad hand.start.present one.path answer → LoadsNothing answer
-    → IsTrue (call_failed (load one.path FILE_LIMIT answer))
-load_failed hand route one would (loaded found) fits tells nothing = absurd nothing
-load_failed hand route one would (too_large stamp) fits tells nothing =
+load_failed : (hand : Hand) (route : Route) (one : Candidate) → size_limit route ≡ READ_LIMIT → WouldPass hand route one → (answer : LoadFacts)
+    → FitsLoad hand.version one.path READ_LIMIT answer → TellsLoad hand.start.present one.path answer → LoadsNothing answer
+    → IsTrue (call_failed (load one.path READ_LIMIT answer))
+load_failed hand route one most would (loaded found) fits tells nothing = absurd nothing
+load_failed hand route one most would (too_large stamp) fits tells nothing =
     let same = ap (λ (s : StampFacts). s.size) (same_Some stamp would.stamp (sym tells ∙ would.there)) in
     let small = would.small in
-    absurd (omega (arith, same, small, fits))
-load_failed hand route one would gone fits tells nothing = absurd (none-some would.stamp (sym tells ∙ would.there))
-load_failed hand route one would failed fits tells nothing = refl
-load_failed hand route one would no_memory fits tells nothing = absurd nothing
+    absurd (omega (arith, same, small, most, fits))
+load_failed hand route one most would gone fits tells nothing = absurd (none-some would.stamp (sym tells ∙ would.there))
+load_failed hand route one most would failed fits tells nothing = refl
+load_failed hand route one most would no_memory fits tells nothing = absurd nothing
 
 source_failed : (hand : Hand) (route : Route) (one : Candidate) (part : List Heard) → IsTrue hand.told → hand.start.Still
-    → WouldPass hand route one → IsSourceMissed hand one part → list_any call_failed part ≡ true
-source_failed hand route one part told still would d =
+    → size_limit route ≡ READ_LIMIT → WouldPass hand route one → IsSourceMissed hand one part → list_any call_failed part ≡ true
+source_failed hand route one part told still most would d =
     ap (list_any call_failed) d.loads.asked
-    ∙ or_left (call_failed (load one.path FILE_LIMIT d.answer)) false
-    (load_failed hand route one would d.answer d.loads.fits (d.loads.tells told still) d.nothing)
+    ∙ or_left (call_failed (load one.path READ_LIMIT d.answer)) false
+    (load_failed hand route one most would d.answer d.loads.fits (d.loads.tells told still) d.nothing)
 
 -- a version of the file that would pass has what was read, so what was read doesn't pass over it
 never_read : (hand : Hand) (route : Route) (one : Candidate) (would : WouldPass hand route one) (stamp : StampFacts)
@@ -67,46 +68,46 @@ never_read hand route one would stamp reads same v none =
     (v.has.sized ∙ ap (λ (s : StampFacts). s.size) same))
 
 -- the opening of a file that would pass failed, or the last read of it
-reads_failed : (hand : Hand) (route : Route) (one : Candidate) → WouldPass hand route one → (answer : FileAnswer)
+reads_failed : (hand : Hand) (route : Route) (one : Candidate) → size_limit route ≡ FILE_LIMIT → WouldPass hand route one → (answer : FileAnswer)
     → (opening : OpenFacts) (reads : List Heard) → FitsOpening hand.version one.path FILE_LIMIT opening
     → TellsOpening hand.start.present one.path opening → OpeningGives hand.version one.path opening reads answer
     → ReadsNothing route one.class answer
     → list_any call_failed (open_file one.path FILE_LIMIT opening ∷ reads) ≡ true
-reads_failed hand route one would (file_read given all) (was_opened stamp) reads fits tells gives nothing =
+reads_failed hand route one most would (file_read given all) (was_opened stamp) reads fits tells gives nothing =
     let at : stamp ≡ would.stamp = same_Some stamp would.stamp (sym tells ∙ would.there) in
     let none = subst (λ (es : List Heard). IsOfReads given.size es (λ b. ¬ Passes route one.class b)) gives.1 nothing in
     absurd (never_read hand route one would stamp reads at gives.2
     (subst (λ (s : StampFacts). IsOfReads s.size reads (λ b. ¬ Passes route one.class b)) gives.0 none))
-reads_failed hand route one would file_failed (was_opened stamp) reads fits tells gives nothing = last_failed reads gives
-reads_failed hand route one would file_too_large (was_opened stamp) reads fits tells gives nothing = absurd gives
-reads_failed hand route one would file_gone (was_opened stamp) reads fits tells gives nothing = absurd gives
-reads_failed hand route one would answer (was_too_large stamp) reads fits tells gives nothing =
+reads_failed hand route one most would file_failed (was_opened stamp) reads fits tells gives nothing = last_failed reads gives
+reads_failed hand route one most would file_too_large (was_opened stamp) reads fits tells gives nothing = absurd gives
+reads_failed hand route one most would file_gone (was_opened stamp) reads fits tells gives nothing = absurd gives
+reads_failed hand route one most would answer (was_too_large stamp) reads fits tells gives nothing =
     let same = ap (λ (s : StampFacts). s.size) (same_Some stamp would.stamp (sym tells ∙ would.there)) in
     let small = would.small in
-    absurd (omega (arith, same, small, fits))
-reads_failed hand route one would answer open_gone reads fits tells gives nothing =
+    absurd (omega (arith, same, small, most, fits))
+reads_failed hand route one most would answer open_gone reads fits tells gives nothing =
     absurd (none-some would.stamp (sym tells ∙ would.there))
-reads_failed hand route one would answer open_failed reads fits tells gives nothing = refl
-reads_failed hand route one would (file_read given all) open_no_memory reads fits tells gives nothing = absurd gives
-reads_failed hand route one would file_failed open_no_memory reads fits tells gives nothing = absurd gives
-reads_failed hand route one would file_too_large open_no_memory reads fits tells gives nothing = absurd gives
-reads_failed hand route one would file_gone open_no_memory reads fits tells gives nothing = absurd gives
-reads_failed hand route one would file_no_memory opening reads fits tells gives nothing = absurd nothing
+reads_failed hand route one most would answer open_failed reads fits tells gives nothing = refl
+reads_failed hand route one most would (file_read given all) open_no_memory reads fits tells gives nothing = absurd gives
+reads_failed hand route one most would file_failed open_no_memory reads fits tells gives nothing = absurd gives
+reads_failed hand route one most would file_too_large open_no_memory reads fits tells gives nothing = absurd gives
+reads_failed hand route one most would file_gone open_no_memory reads fits tells gives nothing = absurd gives
+reads_failed hand route one most would file_no_memory opening reads fits tells gives nothing = absurd nothing
 
 opening_failed : (hand : Hand) (route : Route) (one : Candidate) (part : List Heard) → IsTrue hand.told → hand.start.Still
-    → WouldPass hand route one → IsFileMissed hand route one part → list_any call_failed part ≡ true
-opening_failed hand route one part told still would d =
+    → size_limit route ≡ FILE_LIMIT → WouldPass hand route one → IsFileMissed hand route one part → list_any call_failed part ≡ true
+opening_failed hand route one part told still most would d =
     ap (list_any call_failed) d.opens.asked
-    ∙ reads_failed hand route one would d.answer d.opens.opening d.opens.reads d.opens.fits (d.opens.tells told still) d.opens.gives
+    ∙ reads_failed hand route one most would d.answer d.opens.opening d.opens.reads d.opens.fits (d.opens.tells told still) d.opens.gives
     d.nothing
 
 one_failed : (hand : Hand) (route : Route) (one : Candidate) (part : List Heard) → IsTrue hand.told → hand.start.Still
     → WouldPass hand route one → DoesNotPass hand route one part → list_any call_failed part ≡ true
-one_failed hand (Source id path) one part told still would d = source_failed hand (Source id path) one part told still would d
-one_failed hand (Debuginfo id) one part told still would d = opening_failed hand (Debuginfo id) one part told still would d
-one_failed hand (Executable id) one part told still would d = opening_failed hand (Executable id) one part told still would d
-one_failed hand (Section id name) one part told still would d = opening_failed hand (Section id name) one part told still would d
-one_failed hand Metrics one part told still would d = opening_failed hand Metrics one part told still would d
+one_failed hand (Source id path) one part told still would d = source_failed hand (Source id path) one part told still refl would d
+one_failed hand (Debuginfo id) one part told still would d = opening_failed hand (Debuginfo id) one part told still refl would d
+one_failed hand (Executable id) one part told still would d = opening_failed hand (Executable id) one part told still refl would d
+one_failed hand (Section id name) one part told still would d = opening_failed hand (Section id name) one part told still refl would d
+one_failed hand Metrics one part told still would d = opening_failed hand Metrics one part told still refl would d
 
 some_failed : (hand : Hand) (route : Route) (all : List Candidate) (parts : List (List Heard)) → IsTrue hand.told
     → hand.start.Still → AllZip (DoesNotPass hand route) all parts → SomeWouldPass hand route all
@@ -153,7 +154,7 @@ certified_of (Elf ident sources) class id bytes is reads =
     let parts = and_parts (bytes_eq ident.id id) (is_of_kind class ident) is in (
       ident,
       record {
-        identity = reads.0;
+        identity = identity_read ident sources reads refl;
         same_id = (bytes_eq-Decides ident.id id).0 parts.0;
         of_class = kinds_same class ident parts.1;
       },

@@ -7,3 +7,4 @@ mod FileLemmas
 mod FitLemmas
 mod TriedLemmas
 mod TryLemmas
+mod ReadingLemmas

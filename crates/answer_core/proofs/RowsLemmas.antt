@@ -1,6 +1,6 @@
 -- In a told world the file of a row that is there is among the candidates, and would pass.
 use Rattle.std.proofs.Common.{◌≡◌, ℕ, zero, suc, ◌<◌, ◌&&◌, inl, inr, Bool, true, false, List, [], ◌∷◌, ◌++◌}
-use Rattle.std.proofs.Common.{map, filter, length, get_or, Contains, IsTrue, Some, refl, ◌∙◌, ap, subst, arith}
+use Rattle.std.proofs.Common.{map, filter, length, get_or, Contains, IsTrue, Some, refl, sym, ◌≤◌, ◌∙◌, ap, subst, arith}
 use Rattle.std.proofs.lemmas.List.Folds.{list_any_at}
 use Rattle.index_rows.specs.Classes.{has_class, lists_source}
 use Rattle.row_types.specs.Row.{RowFacts}
@@ -10,7 +10,8 @@ use Rattle.answer_check.specs.Certified.{IsCertified}
 use Rattle.webapi_routes.specs.declared.route.Route.{Route}
 use Rattle.webapi_routes.specs.declared.route.Route.TheVariants.{Debuginfo, Executable, Source, Section, Metrics}
 use Rattle.answer_core.specs.Candidates.{as_class, candidates, is_in_one, is_source_listed, of_class, source_in}
-use Rattle.answer_core.specs.Complete.{HasToFind, IsSourceThere, IsThere, IsToldWorld, NoneIsThere, SomeWouldPass, WouldPass}
+use Rattle.row_types.specs.declared.limits.TheConstants.{FILE_LIMIT}
+use Rattle.answer_core.specs.Complete.{HasToFind, IsSourceThere, IsThere, IsToldWorld, NoneIsThere, SomeWouldPass, WouldPass, size_limit}
 use Rattle.answer_core.specs.Loads.{Hand, NonePasses}
 use Rattle.answer_core.specs.Local.{AreCandidatesAt, Sight}
 use Rattle.answer_check.specs.Passing.{Passes}
@@ -20,15 +21,15 @@ use Rattle.answer_core.proofs.CompleteLemmas.{complete, read_of, row_certified}
 
 -- the row's file would pass, where its bytes do
 would_pass : {true_row : RowFacts → Type 0} (hand : Hand) (route : Route) (class : Kind) (id : List ℕ) (row : RowFacts)
-    → IsToldWorld true_row hand.version → true_row row → IsThere hand class id row
+    → size_limit route ≡ FILE_LIMIT → IsToldWorld true_row hand.version → true_row row → IsThere hand class id row
     → ((bytes : List ℕ) → hand.version row.name.path row.name.stamp bytes → IsCertified class id bytes
     → Passes route (Some class) bytes)
     → WouldPass hand route (as_class class row)
-would_pass hand route class id row world sound there passes =
+would_pass hand route class id row most world sound there passes =
     let reads = world.reads row sound in record {
       stamp = row.name.stamp;
       there = there.at;
-      small = (read_of hand.version row class id reads there.is).0;
+      small = subst (λ n. row.name.stamp.size ≤ n) (sym most) (read_of hand.version row class id reads there.is).0;
       passes = λ b known sized. passes b known (row_certified hand.version world.one row class id reads there.is b known);
     }
 
@@ -81,14 +82,14 @@ has_to_find : {true_row : RowFacts → Type 0} (hand : Hand) (folders : List (Li
     → SomeWouldPass hand route (candidates rows folders route)
 has_to_find hand folders (Debuginfo id) rows row world sound in_ there =
     of_class_has hand (Debuginfo id) kind.Debuginfo id rows row in_ there.is
-    (would_pass hand (Debuginfo id) kind.Debuginfo id row world sound there (λ bytes known certified. certified))
+    (would_pass hand (Debuginfo id) kind.Debuginfo id row refl world sound there (λ bytes known certified. certified))
 has_to_find hand folders (Executable id) rows row world sound in_ there =
     of_class_has hand (Executable id) kind.Executable id rows row in_ there.is
-    (would_pass hand (Executable id) kind.Executable id row world sound there (λ bytes known certified. certified))
+    (would_pass hand (Executable id) kind.Executable id row refl world sound there (λ bytes known certified. certified))
 has_to_find hand folders (Source id path) rows row world sound in_ there = source_has hand folders id path rows row in_ there
 has_to_find hand folders Metrics rows row world sound in_ there = absurd there
 has_to_find hand folders (Section id name) rows row world sound in_ has =
-    by_case has.class has.there (would_pass hand (Section id name) has.class id row world sound has.there
+    by_case has.class has.there (would_pass hand (Section id name) has.class id row refl world sound has.there
     (λ bytes known certified. (
       certified,
       subst (λ (b : List ℕ). HasSectionOf b name)

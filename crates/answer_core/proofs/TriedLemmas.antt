@@ -11,7 +11,7 @@ use Rattle.row_types.specs.Name.{NameFacts}
 use Rattle.row_types.specs.Stamp.{StampFacts}
 use Rattle.row_types.specs.declared.identity.Kind.{Kind}
 use Rattle.row_types.specs.declared.identity.Kind.TheVariants as kind
-use Rattle.row_types.specs.declared.limits.TheConstants.{FILE_LIMIT}
+use Rattle.row_types.specs.declared.limits.TheConstants.{FILE_LIMIT, READ_LIMIT}
 use Rattle.tree_trait.specs.Asks.{AsksTree, IsAnswerTold}
 use Rattle.tree_trait.specs.Found.{FoundFacts, Versions}
 use Rattle.tree_trait.specs.Heard.{Heard, load, open_file, call_failed, wants_memory}
@@ -180,27 +180,27 @@ module _ {F : Type 0} {name_of : F → NameFacts} {told : Bool} {version : Versi
 -- ---- a source
 
 at_load : {told : Bool} {version : Versions} {before after : ShownTree} {path : List ℕ} (one : Candidate) → path ≡ one.path
-    → (answer : LoadFacts) → AsksTree told version before after (load path FILE_LIMIT answer)
-    → AsksTree told version before after (load one.path FILE_LIMIT answer)
-at_load {told} {version} {before} {after} one at answer asks = subst (λ (p : List ℕ). AsksTree told version before after (load p FILE_LIMIT answer)) at asks
+    → (answer : LoadFacts) → AsksTree told version before after (load path READ_LIMIT answer)
+    → AsksTree told version before after (load one.path READ_LIMIT answer)
+at_load {told} {version} {before} {after} one at answer asks = subst (λ (p : List ℕ). AsksTree told version before after (load p READ_LIMIT answer)) at asks
 
 -- its load is a part of what was heard
-load_heard : {told : Bool} {version : Versions} {before after : ShownTree} {Fails : Type 0} (one : Candidate) (answer : LoadFacts) → wants_memory (load one.path FILE_LIMIT answer) ≡ false
-    → AsksTree told version before after (load one.path FILE_LIMIT answer)
-    → (Fails → IsTrue (call_failed (load one.path FILE_LIMIT answer)))
-    → Hears (record { told = told; version = version; start = before }) after (load one.path FILE_LIMIT answer ∷ []) Fails
+load_heard : {told : Bool} {version : Versions} {before after : ShownTree} {Fails : Type 0} (one : Candidate) (answer : LoadFacts) → wants_memory (load one.path READ_LIMIT answer) ≡ false
+    → AsksTree told version before after (load one.path READ_LIMIT answer)
+    → (Fails → IsTrue (call_failed (load one.path READ_LIMIT answer)))
+    → Hears (record { told = told; version = version; start = before }) after (load one.path READ_LIMIT answer ∷ []) Fails
 load_heard {told} {version} {before} {after} {Fails} one answer heard asks fails =
     subst (λ (es : List Heard). Hears (record { told = told; version = version; start = before }) after es Fails)
-    (ap (λ (b : Bool). if b then [] else load one.path FILE_LIMIT answer ∷ []) heard)
-    (hears_asked (load one.path FILE_LIMIT answer) asks fails)
+    (ap (λ (b : Bool). if b then [] else load one.path READ_LIMIT answer ∷ []) heard)
+    (hears_asked (load one.path READ_LIMIT answer) asks fails)
 
-load_is : {told : Bool} {version : Versions} {before after : ShownTree} (one : Candidate) (answer : LoadFacts) → AsksTree told version before after (load one.path FILE_LIMIT answer)
-    → IsLoad (record { told = told; version = version; start = before }) one answer (load one.path FILE_LIMIT answer ∷ [])
+load_is : {told : Bool} {version : Versions} {before after : ShownTree} (one : Candidate) (answer : LoadFacts) → AsksTree told version before after (load one.path READ_LIMIT answer)
+    → IsLoad (record { told = told; version = version; start = before }) one answer (load one.path READ_LIMIT answer ∷ [])
 load_is {told} {version} {before} {after} one answer asks = record {
   asked = refl;
   fits = asks.fits;
   tells = λ is still.
-      subst (λ (present : List NameFacts). IsAnswerTold present (load one.path FILE_LIMIT answer)) (asks.hands.still still).same
+      subst (λ (present : List NameFacts). IsAnswerTold present (load one.path READ_LIMIT answer)) (asks.hands.still still).same
       (asks.tells is);
 }
 
@@ -209,72 +209,72 @@ module _ {F : Type 0} {name_of : F → NameFacts} {told : Bool} {version : Versi
   -- it was found, and is given
   pub tries_loaded : asks_source route ≡ true → (found : FoundFacts) (given : Given F)
       → given_facts name_of given ≡ source_given found.bytes
-      → AsksTree told version before after (load path FILE_LIMIT (loaded found))
+      → AsksTree told version before after (load path READ_LIMIT (loaded found))
       → TriesOne name_of (record { told = told; version = version; start = before }) route one (tried.Passed given) after
   tries_loaded is found given gives said =
       let asks = at_load one at (loaded found) said in
       record {
-        part = load one.path FILE_LIMIT (loaded found) ∷ [];
+        part = load one.path READ_LIMIT (loaded found) ∷ [];
         hears = load_heard one (loaded found) refl asks (λ never. absurd (cc));
         comes = source_passes (record { told = told; version = version; start = before }) route one (given_facts name_of given)
-            (load one.path FILE_LIMIT (loaded found) ∷ []) is
+            (load one.path READ_LIMIT (loaded found) ∷ []) is
             (record { found = found; loads = load_is one (loaded found) asks; gives = gives });
       }
 
   -- it is too large
   pub tries_too_large : asks_source route ≡ true → (stamp : StampFacts)
-      → AsksTree told version before after (load path FILE_LIMIT (too_large stamp))
+      → AsksTree told version before after (load path READ_LIMIT (too_large stamp))
       → TriesOne name_of (record { told = told; version = version; start = before }) route one tried.Refused after
   tries_too_large is stamp said =
       let asks = at_load one at (too_large stamp) said in
       record {
-        part = load one.path FILE_LIMIT (too_large stamp) ∷ [];
+        part = load one.path READ_LIMIT (too_large stamp) ∷ [];
         hears = load_heard one (too_large stamp) refl asks (λ never. absurd (cc));
         comes = (
           source_misses (record { told = told; version = version; start = before }) route one
-              (load one.path FILE_LIMIT (too_large stamp) ∷ []) is
+              (load one.path READ_LIMIT (too_large stamp) ∷ []) is
               (record { answer = too_large stamp; loads = load_is one (too_large stamp) asks; nothing = tt }),
           refl,
         );
       }
 
   -- it is gone
-  pub tries_gone : asks_source route ≡ true → AsksTree told version before after (load path FILE_LIMIT gone)
+  pub tries_gone : asks_source route ≡ true → AsksTree told version before after (load path READ_LIMIT gone)
       → TriesOne name_of (record { told = told; version = version; start = before }) route one tried.Refused after
   tries_gone is said =
       let asks = at_load one at gone said in
       record {
-        part = load one.path FILE_LIMIT gone ∷ [];
+        part = load one.path READ_LIMIT gone ∷ [];
         hears = load_heard one gone refl asks (λ never. absurd (cc));
         comes = (
           source_misses (record { told = told; version = version; start = before }) route one
-              (load one.path FILE_LIMIT gone ∷ []) is (record { answer = gone; loads = load_is one gone asks; nothing = tt }),
+              (load one.path READ_LIMIT gone ∷ []) is (record { answer = gone; loads = load_is one gone asks; nothing = tt }),
           refl,
         );
       }
 
   -- its load failed
-  pub tries_unloaded : asks_source route ≡ true → AsksTree told version before after (load path FILE_LIMIT failed)
+  pub tries_unloaded : asks_source route ≡ true → AsksTree told version before after (load path READ_LIMIT failed)
       → TriesOne name_of (record { told = told; version = version; start = before }) route one tried.Failed after
   tries_unloaded is said =
       let asks = at_load one at failed said in
       record {
-        part = load one.path FILE_LIMIT failed ∷ [];
+        part = load one.path READ_LIMIT failed ∷ [];
         hears = load_heard one failed refl asks (λ _. refl);
         comes = (
           source_misses (record { told = told; version = version; start = before }) route one
-              (load one.path FILE_LIMIT failed ∷ []) is (record { answer = failed; loads = load_is one failed asks; nothing = tt }),
+              (load one.path READ_LIMIT failed ∷ []) is (record { answer = failed; loads = load_is one failed asks; nothing = tt }),
           refl,
         );
       }
 
   -- memory was refused
-  pub tries_unmade : asks_source route ≡ true → AsksTree told version before after (load path FILE_LIMIT no_memory)
+  pub tries_unmade : asks_source route ≡ true → AsksTree told version before after (load path READ_LIMIT no_memory)
       → TriesOne name_of (record { told = told; version = version; start = before }) route one tried.OutOfMemory after
   tries_unmade is said =
       let asks = at_load one at no_memory said in
       record {
         part = [];
-        hears = hears_asked (load one.path FILE_LIMIT no_memory) asks (λ never. absurd (cc));
+        hears = hears_asked (load one.path READ_LIMIT no_memory) asks (λ never. absurd (cc));
         comes = source_left (record { told = told; version = version; start = before }) route one is;
       }

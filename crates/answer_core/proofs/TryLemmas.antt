@@ -11,7 +11,7 @@ use Rattle.tree_trait.specs.Heard.{Heard, call_failed}
 use Rattle.tree_trait.specs.Shown.{ShownTree}
 use Rattle.webapi_routes.specs.declared.route.Route.{Route}
 use Rattle.answer_core.specs.Given.{given_facts}
-use Rattle.answer_core.specs.Loads.{DoesNotPass, Hand, HasCandidatePassed, HasStopped, HasTried, Hears, NonePasses, TriesOne, joined_parts}
+use Rattle.answer_core.specs.Loads.{DoesNotPass, Hand, HasCandidatePassed, HasStopped, HasTried, NonePasses, TriesOne, joined_parts}
 use Rattle.answer_core.specs.declared.candidate.Candidate.{Candidate}
 use Rattle.answer_core.specs.declared.given.Given.{Given}
 use Rattle.answer_core.specs.declared.given.Tried.TheVariants as tried

@@ -7,7 +7,7 @@ use Rattle.row_types.specs.Row.{RowFacts}
 use Rattle.row_types.specs.Stamp.{StampFacts}
 use Rattle.row_types.specs.declared.identity.Kind.{Kind}
 use Rattle.row_types.specs.declared.identity.Kind.TheVariants as kind
-use Rattle.row_types.specs.declared.limits.TheConstants.{FILE_LIMIT}
+use Rattle.row_types.specs.declared.limits.TheConstants.{FILE_LIMIT, READ_LIMIT}
 use Rattle.tree_trait.specs.Found.{Versions}
 use Rattle.webapi_routes.specs.declared.route.Route.{Route}
 use Rattle.webapi_routes.specs.declared.route.Route.TheVariants.{Debuginfo, Executable, Source, Section, Metrics}
@@ -18,11 +18,16 @@ use Rattle.answer_check.specs.Passing.{Passes}
 use Rattle.answer_check.specs.Section.{HasSectionOf}
 use Rattle.answer_core.specs.declared.candidate.Candidate.{Candidate}
 
+-- the largest size of a file by which the route is answered: a source is read into memory whole
+abbrev pub size_limit : Route → ℕ
+size_limit (Source id path) = READ_LIMIT
+size_limit _ = FILE_LIMIT
+
 -- the candidate is there at this stamp, within the limit, and each version of its path and stamp passes, whole as the stamp says
 pub record WouldPass (hand : Hand) (route : Route) (one : Candidate) : Type 0 where
   pub stamp : StampFacts
   pub there : stamp_at hand.start.present one.path ≡ Some stamp
-  pub small : stamp.size ≤ FILE_LIMIT
+  pub small : stamp.size ≤ size_limit route
   pub passes : (b : List ℕ) → hand.version one.path stamp b → length b ≡ stamp.size → Passes route one.class b
 
 -- some candidate is there and would pass
@@ -54,7 +59,7 @@ pub record IsSourceThere (hand : Hand) (folders : List (List ℕ)) (id path : Li
   pub inside : is_in_one folders path ≡ true
   pub stamp : StampFacts
   pub at : stamp_at hand.start.present path ≡ Some stamp
-  pub small : stamp.size ≤ FILE_LIMIT
+  pub small : stamp.size ≤ READ_LIMIT
 
 -- by this row the route has to find something. It is said of rows, and not of requests, since in a told world a true row says what
 -- its file is

@@ -8,7 +8,7 @@ use Rattle.file_parts.specs.AtPath.{FileAnswer, OpeningGives, ReadsRanges, file_
 use Rattle.row_types.specs.Name.{NameFacts}
 use Rattle.row_types.specs.Stamp.{StampFacts}
 use Rattle.row_types.specs.declared.identity.Kind.{Kind}
-use Rattle.row_types.specs.declared.limits.TheConstants.{FILE_LIMIT}
+use Rattle.row_types.specs.declared.limits.TheConstants.{FILE_LIMIT, READ_LIMIT}
 use Rattle.tree_trait.specs.Found.{FoundFacts, Versions}
 use Rattle.tree_trait.specs.Heard.{Heard, load, open_file, call_failed}
 use Rattle.tree_trait.specs.Listens.{ListsAnswers}
@@ -35,8 +35,8 @@ pub record Hand : Type 1 where
 -- a part of what was heard is the load of a source with this answer: within the limit, and by the files that are there,
 -- where the hand is told and still
 pub record IsLoad (hand : Hand) (one : Candidate) (answer : LoadFacts) (part : List Heard) : Type 0 where
-  pub asked : part ≡ load one.path FILE_LIMIT answer ∷ []
-  pub fits : FitsLoad hand.version one.path FILE_LIMIT answer
+  pub asked : part ≡ load one.path READ_LIMIT answer ∷ []
+  pub fits : FitsLoad hand.version one.path READ_LIMIT answer
   pub tells : IsTrue hand.told → hand.start.Still → TellsLoad hand.start.present one.path answer
 
 -- a part of what was heard is the opening of a candidate's file, with the reads of it behind that, and this is what they gave: the

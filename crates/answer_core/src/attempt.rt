@@ -9,14 +9,15 @@ use crate::candidate::Candidate;
 use crate::fitting::check_opened;
 use crate::given::{Given, Tried};
 use file_parts::{FilePart, FileSeen, read_at_path};
-use row_types::{FILE_LIMIT, Truth};
+use row_types::{READ_LIMIT, Truth};
 use std::alloc::Global;
 use std::sync::Wait;
 use tree_trait::{Found, Gate, LoadAnswer, Point, Tree};
 use webapi_routes::{Route, SectionName};
 
-/// Opens a candidate of at most 1 GiB, reads of it what the answer to the route rests on and no more,
-/// and checks that. A source of at most 1 GiB is loaded whole. The gate is passed before.
+/// Opens a candidate of at most [`FILE_LIMIT`](row_types::FILE_LIMIT) bytes, reads of it what the answer
+/// to the route rests on and no more, and checks that. A source of at most [`READ_LIMIT`] bytes is loaded
+/// whole. The gate is passed before.
 pub(crate) fn try_one<W: Truth, T: Tree<W>, G: Gate, R: Wait + Sync>(
     rt: &R,
     alloc: Global,
@@ -56,7 +57,7 @@ fn try_source<W: Truth, T: Tree<W>>(
         (record { told = T.told; version = W.version; start = T.shows hand.old })
         route.now candidate.now result (T.shows hand.new) }
 {
-    match hand.load(alloc, candidate.path.text(), FILE_LIMIT) {
+    match hand.load(alloc, candidate.path.text(), READ_LIMIT) {
         LoadAnswer::Found(found) => Tried::Passed(Given::Source(bytes_of(found))),
         LoadAnswer::TooLarge { .. } => Tried::Refused,
         LoadAnswer::Gone => Tried::Refused,

@@ -70,9 +70,11 @@ pub enum Local<F: Drop> {
 
 /// Answers a route of a build-id from the index and the hand. The lock is taken once, to pick the
 /// candidates, and left before the first of them is opened. They are opened in path order, for a
-/// section those with debug information first, up to 1 GiB each; of each what its identity rests on
-/// is read, for a section that section too, and the first that passes is taken. A source is loaded
-/// whole, up to 1 GiB. The gate is passed before each opening or load.
+/// section those with debug information first, up to [`FILE_LIMIT`](row_types::FILE_LIMIT) bytes each; of
+/// each what its identity rests on is read, for a section that section too, and the first that passes
+/// is taken. A source is loaded whole, up to [`READ_LIMIT`](row_types::READ_LIMIT) bytes; where more
+/// than these would be read of a file, the answer is want of memory. The gate is passed before each
+/// opening or load.
 pub fn answer_local<W: Truth, K: Keeper<W>, T: Tree<W>, G: Gate, R: Wait + Sync>(
     rt: &R,
     alloc: Global,

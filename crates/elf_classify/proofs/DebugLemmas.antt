@@ -31,7 +31,7 @@ use Rattle.elf_classify.specs.declared.parts.PartsView.TheVariants as view
 use Rattle.elf_classify.proofs.PlacedLemmas.{never_needs_section}
 
 -- what is so of each of the six names is so of each name among them
-each_name : (P : List ℕ → Type 0) → P (codes ".debug_info") → P (codes ".debug_abbrev") → P (codes ".debug_line")
+pub each_name : (P : List ℕ → Type 0) → P (codes ".debug_info") → P (codes ".debug_abbrev") → P (codes ".debug_line")
     → P (codes ".debug_str") → P (codes ".debug_line_str") → P (codes ".debug_str_offsets")
     → (name : List ℕ) → is_debug_name name ≡ true → P name
 each_name P a b c d e f name among =
@@ -137,7 +137,7 @@ debug_answer v file parts same s = subst (λ w. IsDebugSeen w parts) same s
 -- ---- of each file that agrees
 
 -- all windows are there where the identity is known
-all_known : (p : PictureFacts) → IsPicture p → KnowsIdentity p → (n : ℕ) → AllHere p n
+pub all_known : (p : PictureFacts) → IsPicture p → KnowsIdentity p → (n : ℕ) → AllHere p n
 all_known p is k n = record {
   here = λ w r below h. k.known.there (filled_with_zeros p) (filled-agrees p is) r (record { window = w; is = h });
 }

@@ -3,3 +3,4 @@ pub mod PlaceLemmas
 pub mod SeenLemmas
 pub mod PlacedLemmas
 pub mod DebugLemmas
+pub mod DebugPlaceLemmas

@@ -24,7 +24,7 @@ use Rattle.elf_classify.specs.declared.named.SectionStep.{SectionStep}
 use Rattle.elf_classify.specs.declared.named.SectionStep.TheVariants as step
 
 -- the range of the section of a name that was found
-one_range : {b : List ℕ} {t : SectionTable} {name : List ℕ} {r : Range} (at : Need) → section_table b ≡ Ok t → IsSectionPlaced b t name at
+pub one_range : {b : List ℕ} {t : SectionTable} {name : List ℕ} {r : Range} (at : Need) → section_table b ≡ Ok t → IsSectionPlaced b t name at
     → IsSectionRange b name r → range at.at at.len ≡ r
 one_range {b} {t} {name} {r} at is_table p w =
     let same : w.of ≡ t = same_ok (sym w.is_table ∙ is_table) in

@@ -1,14 +1,16 @@
 -- The debug sections of a file of which parts are there, and what is said of them (this project's rule).
-use Rattle.std.specs.Prelude.{◌≡◌, ◌⊎◌, ℕ, List, Option, option_map, true, false, ◌==◌, Ok}
+use Rattle.std.specs.Prelude.{◌≡◌, ◌⊎◌, ◌↔◌, ℕ, List, Option, option_map, true, false, ◌==◌, ◌+◌, ◌≤◌, All, Ok, length}
+use Rattle.file_formats.specs.Cover.{IsPlaceOf}
 use Rattle.file_formats.specs.declared.codes.TheConstants.{ET_REL}
 use Rattle.file_formats.specs.declared.header.SectionTable.{SectionTable}
 use Rattle.file_formats.specs.DwarfSections.{IsSectionPart, AreDebugSections, IsDebugAnswer}
 use Rattle.file_formats.specs.DwarfUnits.{DebugSections}
 use Rattle.file_formats.specs.Identity.{Identity}
-use Rattle.file_formats.specs.Parts.{IsDebugRange, IsSomePart, is_debug_name}
+use Rattle.file_formats.specs.Parts.{IsDebugRange, IsSectionRange, IsSomePart, is_debug_name}
 use Rattle.file_formats.specs.Table.{section_table}
 use Rattle.file_formats.specs.Windows.{Range}
-use Rattle.file_picture.specs.Agrees.{AsksOf, IsOfEach, filled_with_zeros}
+use Rattle.file_picture.specs.Agrees.{AgreesWithPicture, AsksOf, IsOfEach, filled_with_zeros}
+use Rattle.file_picture.specs.Counts.{is_among, is_inside}
 use Rattle.file_picture.specs.Picture.{PictureFacts, IsCovered}
 use Rattle.file_picture.specs.declared.view.Need.{Need}
 use Rattle.dwarf_forms.specs.Parts.{sections_of}
@@ -62,3 +64,24 @@ pub record KnowsIdentity (p : PictureFacts) : Type 0 where
 abbrev pub SaysParts : PictureFacts → PartsView → Type 0
 SaysParts p (view.Need at len) = AsksOf IsSomePart p at len
 SaysParts p (view.Parts parts) = IsOfEach IsSomePart (λ b. IsDebugAnswer b (option_map sections_of parts)) p
+
+-- the ranges lie in the file, and a place lies in one of them exactly where it lies in a debug section, of each file that agrees
+pub record AreDebugPlaces (p : PictureFacts) (places : List Need) : Type 0 where
+  pub inside : All (λ at. at.at + at.len ≤ p.size) places
+  pub each : (b : List ℕ) → AgreesWithPicture b p → (q : ℕ) → (is_among places q ≡ true) ↔ IsPlaceOf (IsDebugRange b) q
+
+-- the range of the section of one of the names
+pub record IsNamedRange (b : List ℕ) (r : Range) : Type 0 where
+  pub name : List ℕ
+  pub among : is_debug_name name ≡ true
+  pub is : IsSectionRange b name r
+
+-- where the section of a name stands in the filled picture; no bytes where it isn't handed out
+pub record IsNamePlace (f : Opened) (name : List ℕ) (at : Need) : Type 0 where
+  pub inside : at.at + at.len ≤ length (filled_with_zeros f.file)
+  pub each : (q : ℕ) → (is_inside at.at at.len q ≡ true) ↔ IsPlaceOf (IsSectionRange (filled_with_zeros f.file) name) q
+
+-- where all six stand
+pub record AreNamePlaces (f : Opened) (places : List Need) : Type 0 where
+  pub inside : All (λ at. at.at + at.len ≤ length (filled_with_zeros f.file)) places
+  pub each : (q : ℕ) → (is_among places q ≡ true) ↔ IsPlaceOf (IsNamedRange (filled_with_zeros f.file)) q

@@ -7,8 +7,10 @@ mod identity;
 mod ids;
 mod named;
 mod parts;
+mod places;
 
 pub use dwarf_forms::DebugParts;
 pub use identity::{IdentStep, IdentView, ident, ident_from, ident_view};
 pub use named::{SectionStep, SectionView, section_from, section_of, section_view};
 pub use parts::{PartsView, debug_parts, parts_view};
+pub use places::debug_places;

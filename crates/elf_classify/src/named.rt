@@ -38,7 +38,7 @@ fn place_at(file: &ElfView<'_>, index: u64, name: &[u8]) -> Option<Need>
 }
 
 /// Where the first section of a name that is handed out stands.
-fn first_named(file: &ElfView<'_>, name: &[u8]) -> Option<Need>
+pub(crate) fn first_named(file: &ElfView<'_>, name: &[u8]) -> Option<Need>
     ensures found { IfSome result (IsSectionPlaced (filled_with_zeros file.now.file) file.now.table name.now) }
     ensures none { IfNone result ((i : ℕ) (bytes : List ℕ)
         → HasSection (filled_with_zeros file.now.file) file.now.table name.now i bytes → ⊥) }

@@ -9,11 +9,11 @@ ghost use Rattle.tree_trait.specs.Reader.{IsRowOf};
 use crate::elf_truth::ElfTruth;
 use crate::reading::reading_of;
 use crate::view::read_view;
-use row_types::{EDITION, FILE_LIMIT, Name, Reading, Row, TrueRow, Truth};
+use row_types::{EDITION, FILE_LIMIT, Name, READ_LIMIT, Reading, Row, TrueRow, Truth};
 use std::alloc::{AllocError, Global};
 use tree_trait::{Found, Opened, Reader, ViewAnswer};
 
-/// Makes the row of a file by its identity and the source paths that its DWARF 5 names.
+/// Makes the row of a file by its identity and the source paths that its DWARF names.
 #[derive(Clone, Copy)]
 pub struct ElfReader;
 
@@ -21,10 +21,12 @@ impl<W: ElfTruth> Reader<W> for ElfReader {
     #[tactic(auto, using(crate::proofs::ReadLemmas::large_is_read))]
     fn read(&self, alloc: Global, name: Name, found: &Found<W>) -> Result<TrueRow<W>, AllocError> {
         if name.stamp.size > FILE_LIMIT {
-            Ok(large_row(name))
-        } else {
-            small_row(alloc, name, found)
+            return Ok(large_row(name));
         }
+        if name.stamp.size > READ_LIMIT {
+            return Err(AllocError);
+        }
+        small_row(alloc, name, found)
     }
 
     fn read_view<F: Drop>(
@@ -38,7 +40,7 @@ impl<W: ElfTruth> Reader<W> for ElfReader {
     }
 }
 
-/// The row of a file above 1 GiB, whatever its bytes. No memory is taken.
+/// The row of a file above [`FILE_LIMIT`], whatever its bytes. No memory is taken.
 pub fn large_row<W: Truth>(name: Name) -> TrueRow<W>
     requires { FILE_LIMIT < name.stamp.size }
     ensures { result ≡ too_large_row name }
@@ -49,7 +51,7 @@ pub fn large_row<W: Truth>(name: Name) -> TrueRow<W>
     }
 }
 
-/// The row of a file of at most 1 GiB that was found under its name.
+/// The row of a file of at most [`READ_LIMIT`] bytes that was found under its name.
 #[tactic(auto, using(crate::proofs::ReadLemmas::rows_read))]
 fn small_row<W: ElfTruth>(
     alloc: Global,
@@ -57,7 +59,7 @@ fn small_row<W: ElfTruth>(
     found: &Found<W>,
 ) -> Result<TrueRow<W>, AllocError>
     requires found { found_name found.now ≡ name }
-    requires small { name.stamp.size ≤ FILE_LIMIT }
+    requires small { name.stamp.size ≤ READ_LIMIT }
     ensures { IfOk result (IsRowOf name found.now.bytes) }
 {
     // For its clause: these are the bytes of the file's version.
@@ -66,7 +68,7 @@ fn small_row<W: ElfTruth>(
     Ok(row_of(name, reading))
 }
 
-/// The row of a file of at most 1 GiB, some version of which is found to be this. No memory is taken.
+/// The row of a file of at most [`FILE_LIMIT`] bytes, some version of which is found to be this. No memory is taken.
 #[tactic(auto, using(crate::proofs::ReadLemmas::read_is_true))]
 pub(crate) fn row_of<W: ElfTruth>(name: Name, reading: Reading) -> TrueRow<W>
     requires read { IsVersionRead W.version name reading }

@@ -12,7 +12,7 @@ pub trait ElfTruth: Truth {
     /// A row of the edition is true where its reading is that of a version of its name.
     ghost read_rows: { (row : RowFacts) → IsTrueRow Self.version row → Self.true_row row };
 
-    /// In a told world no other row is true, but for the rows of files above 1 GiB.
+    /// In a told world no other row is true, but for the rows of files above FILE_LIMIT.
     ghost only_read: { Self.told ≡ true → (row : RowFacts) → Self.true_row row
         → IsTrueRow Self.version row };
 }

@@ -1,39 +1,35 @@
 //! What a file is found to be, by its bytes and by a picture of it.
 
-ghost use Rattle.std.specs.Prelude.{ℕ, List, Ok, IfOk, option_map};
-ghost use Rattle.dwarf_forms.specs.Parts.{sections_of};
-ghost use Rattle.file_formats.specs.DwarfSections.{IsDebugAnswer};
-ghost use Rattle.file_formats.specs.Identity.{IsIdentity};
+ghost use Rattle.std.specs.Prelude.{◌≤◌, Ok, IfOk, length};
+ghost use Rattle.file_formats.specs.Parts.{IsSomePart};
+ghost use Rattle.file_formats.specs.Windows.{IsSomeWindow};
+ghost use Rattle.file_picture.specs.Agrees.{AsksOf};
 ghost use Rattle.file_picture.specs.Passed.{HasPassed};
+ghost use Rattle.file_picture.specs.ReadSoFar.{IsReadSoFar};
 ghost use Rattle.row_types.specs.Reading.{ReadsBytes};
+ghost use Rattle.row_types.specs.declared.limits.TheConstants.{READ_LIMIT};
+ghost use Rattle.elf_classify.specs.DebugViews.{KnowsIdentity};
 ghost use Rattle.elf_classify.specs.Views.{IsIdentityOfEach};
-ghost use Rattle.elf_reading.specs.RowViews.{SaysReading};
+ghost use Rattle.elf_reading.specs.RowViews.{CoversMore, SaysReading};
 
 use crate::sources::sources_of;
-use elf_classify::{DebugParts, IdentStep, PartsView, debug_parts, ident, ident_from, parts_view};
-use file_picture::Picture;
-use row_types::{Ident, Reading};
+use elf_classify::{
+    IdentStep, PartsView, debug_parts, debug_places, ident, ident_from, parts_view,
+};
+use file_picture::{Picture, known_with, known_with_all};
+use row_types::{Ident, READ_LIMIT, Reading, Sources, Why};
 use std::alloc::{AllocError, Global};
 
-/// What each file of this identity with these debug sections is found to be.
-fn reading_from(
-    alloc: Global,
-    ident: Ident,
-    parts: Option<DebugParts<'_>>,
-) -> Result<Reading, AllocError>
-    ensures { IfOk result (λ reading. (bytes : List ℕ) → IsIdentity bytes (Ok ident)
-        → IsDebugAnswer bytes (option_map sections_of parts.entry) → ReadsBytes bytes reading) }
-{
-    let sources = sources_of(alloc, parts)?;
-    Ok(Reading::Elf { ident, sources })
-}
-
-/// What bytes are found to be.
+/// What bytes are found to be, of which there are no more than may be read.
 pub(crate) fn reading_of(alloc: Global, bytes: &[u8]) -> Result<Reading, AllocError>
+    requires { length bytes.now ≤ READ_LIMIT }
     ensures { IfOk result (ReadsBytes bytes.now) }
 {
     match ident(bytes) {
-        Ok(ident) => reading_from(alloc, ident, debug_parts(bytes)),
+        Ok(ident) => {
+            let sources = sources_of(alloc, debug_parts(bytes))?;
+            Ok(Reading::Elf { ident, sources })
+        }
         Err(why) => Ok(Reading::Plain(why)),
     }
 }
@@ -56,34 +52,85 @@ pub enum ReadingView {
     OutOfMemory,
 }
 
-/// What each file that agrees with a picture is found to be, where all its parts are there; else
-/// one of these that isn't. No section before one is looked at for a build-id.
+/// What each file that agrees with a picture is found to be, as soon as what is known and what is
+/// asked for decide it; else a part that isn't there, and with which no more than [`READ_LIMIT`] bytes
+/// are known. No section before one is looked at for a build-id.
 pub fn reading_seen(alloc: Global, picture: &Picture, from: u64) -> ReadingView
-    requires { HasPassed picture.now from }
-    ensures { SaysReading picture.now result }
+    requires passed { HasPassed picture.now from }
+    requires read { IsReadSoFar READ_LIMIT picture.now }
+    ensures { SaysReading READ_LIMIT picture.now result }
 {
+    reading_within(alloc, picture, from, READ_LIMIT)
+}
+
+/// The same, where at most `limit` bytes of a file may be read.
+pub fn reading_within(alloc: Global, picture: &Picture, from: u64, limit: u64) -> ReadingView
+    requires passed { HasPassed picture.now from }
+    requires read { IsReadSoFar limit picture.now }
+    ensures { SaysReading limit picture.now result }
+{
+    // For its clause: the pieces of a picture neither overlap nor touch.
+    let _size = picture.size();
     match ident_from(picture, from) {
-        IdentStep::Need { at, len, next } => ReadingView::Need { at, len, next },
-        IdentStep::Ident(ident) => elf_seen(alloc, picture, ident, from),
+        IdentStep::Need { at, len, next } => window_needed(picture, at, len, next, limit),
+        IdentStep::Ident(ident) => elf_seen(alloc, picture, ident, from, limit),
         IdentStep::Plain(why) => ReadingView::Read(Reading::Plain(why)),
     }
 }
 
-/// The same of a picture whose files have this identity.
-fn elf_seen(alloc: Global, picture: &Picture, ident: Ident, from: u64) -> ReadingView
+/// The answer where a window is needed: too large, where those so far cover too much with it.
+fn window_needed(picture: &Picture, at: u64, len: u64, next: u64, limit: u64) -> ReadingView
+    requires asks { AsksOf IsSomeWindow picture.now at len }
+    requires passed { HasPassed picture.now next }
+    requires read { IsReadSoFar limit picture.now }
+    ensures { SaysReading limit picture.now result }
+{
+    // For its clause: the pieces of a picture neither overlap nor touch.
+    let _size = picture.size();
+    if known_with(picture, at, len) > limit {
+        return ReadingView::Read(Reading::Plain(Why::TooLarge));
+    }
+    ReadingView::Need { at, len, next }
+}
+
+/// The answer for a picture whose files have this identity.
+fn elf_seen(alloc: Global, picture: &Picture, ident: Ident, from: u64, limit: u64) -> ReadingView
     requires known { IsIdentityOfEach picture.now (Ok ident) }
     requires passed { HasPassed picture.now from }
-    ensures { SaysReading picture.now result }
+    requires read { IsReadSoFar limit picture.now }
+    ensures { SaysReading limit picture.now result }
 {
+    // For its clause: the pieces of a picture neither overlap nor touch.
+    let _size = picture.size();
     match parts_view(picture) {
-        PartsView::Need { at, len } => ReadingView::Need {
-            at,
-            len,
-            next: from,
-        },
-        PartsView::Parts(parts) => match reading_from(alloc, ident, parts) {
-            Ok(reading) => ReadingView::Read(reading),
+        PartsView::Need { at, len } => {
+            if covers_more(picture, limit) {
+                return ReadingView::Read(Reading::Elf {
+                    ident,
+                    sources: Sources::new(alloc),
+                });
+            }
+            ReadingView::Need {
+                at,
+                len,
+                next: from,
+            }
+        }
+        PartsView::Parts(parts) => match sources_of(alloc, parts) {
+            Ok(sources) => ReadingView::Read(Reading::Elf { ident, sources }),
             Err(_) => ReadingView::OutOfMemory,
         },
     }
+}
+
+/// Whether the parts of each file that agrees with a picture, whose windows are there, cover more
+/// than so many bytes together.
+fn covers_more(picture: &Picture, limit: u64) -> bool
+    requires known { KnowsIdentity picture.now }
+    requires read { IsReadSoFar limit picture.now }
+    ensures { CoversMore limit picture.now result }
+{
+    // For its clause: the pieces of a picture neither overlap nor touch.
+    let _size = picture.size();
+    known_with_all(picture, &debug_places(picture)) > limit
 }

@@ -13,10 +13,7 @@ use std::alloc::{AllocError, Global};
 
 /// The source paths of each file that has these debug sections, in order by bytes, each once; none
 /// for a file that has none to hand out.
-pub(crate) fn sources_of(
-    alloc: Global,
-    parts: Option<DebugParts<'_>>,
-) -> Result<Sources, AllocError>
+pub fn sources_of(alloc: Global, parts: Option<DebugParts<'_>>) -> Result<Sources, AllocError>
     ensures sources { IfOk result (λ found. (bytes : List ℕ)
         → IsDebugAnswer bytes (option_map sections_of parts.entry) → AreSourcesOf bytes found) }
     ensures small { IfOk result (λ found. texts_room found ≤ SOURCES_LIMIT) }

@@ -9,3 +9,6 @@ pub mod PassedLaws
 pub mod UniqueLaw
 pub mod WholeLaws
 pub mod DifferenceLemmas
+pub mod CountLemmas
+pub mod AmongLemmas
+pub mod ReadSoFarLaws

@@ -5,3 +5,5 @@ pub mod Pieces
 pub mod Whole
 pub mod Lent
 pub mod Difference
+pub mod Counts
+pub mod ReadSoFar

@@ -2,6 +2,7 @@
 //! How they are read, and what they mean, is left out.
 #![tactic(auto)]
 
+mod count;
 mod difference;
 mod joins;
 mod picture;
@@ -9,6 +10,7 @@ mod piece;
 mod places;
 mod view;
 
+pub use count::{known_with, known_with_all};
 pub use difference::Difference;
 pub use picture::Picture;
 pub use view::{Need, View};

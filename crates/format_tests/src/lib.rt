@@ -15,6 +15,8 @@ mod identities;
 #[cfg(test)]
 mod pictures;
 #[cfg(test)]
+mod reading_on;
+#[cfg(test)]
 mod readings;
 #[cfg(test)]
 mod row_views;

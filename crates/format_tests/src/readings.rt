@@ -97,7 +97,7 @@ fn is_of_sample(rt: &impl Abort, reading: &Reading) {
 fn the_row_of_the_sample_has_its_identity_and_its_sources(rt: HostRuntime) {
     let file = dwarf_five(rt.alloc()).expect(&rt, "memory");
     let row = row_of(&rt, rt.alloc(), file);
-    assert!(rt; row.row().edition == 1);
+    assert!(rt; row.row().edition == 2);
     assert!(rt; row.row().name.path.text() == "/w/a");
     assert!(rt; row.row().name.stamp.size == 1016);
     is_of_sample(&rt, &row.row().reading);

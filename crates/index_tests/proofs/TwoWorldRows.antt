@@ -1,14 +1,17 @@
 -- The true rows of the told world of two versions.
-use Rattle.std.proofs.Common.{◌≡◌, inl, inr, Err, refl, sym, subst}
+use Rattle.std.proofs.Common.{◌≡◌, ◌≤◌, inl, inr, ℕ, List, Err, length, refl, sym, subst, arith}
+use Rattle.file_formats.proofs.CoverLaws.{cover-within}
+use Rattle.file_formats.proofs.PartLaws.{part-inside}
 use Rattle.file_formats.specs.Header.{header_of}
 use Rattle.file_formats.specs.Identity.{IsIdentity, refused}
 use Rattle.file_formats.specs.Table.{section_table}
+use Rattle.file_formats.specs.Windows.{IsSomeWindow}
 use Rattle.file_formats.specs.declared.fault.ElfFault.TheVariants.{NotElf}
 use Rattle.file_formats.specs.declared.fault.Why.TheVariants.{NotElf as WhyNotElf}
-use Rattle.row_types.specs.Reading.{IsTrueRow}
+use Rattle.row_types.specs.Reading.{IsTrueRow, ReadsBytes, no_identity}
 use Rattle.row_types.specs.Row.{RowFacts}
 use Rattle.row_types.specs.Stamp.{StampFacts}
-use Rattle.row_types.specs.declared.limits.TheConstants.{EDITION}
+use Rattle.row_types.specs.declared.limits.TheConstants.{EDITION, READ_LIMIT}
 use Rattle.row_types.specs.declared.reading.Reading.TheVariants.{Plain}
 use Rattle.std.specs.Prelude.{◌⊎◌, codes}
 use Rattle.tree_trait.specs.TwoWorld.{IsEither, first_stamp, path, second_stamp}
@@ -22,6 +25,11 @@ second_is_refused : IsIdentity (codes "yy") (Err WhyNotElf)
 unfolding section_table header_of
 second_is_refused = refused NotElf refl
 
+-- no more bytes than may be read are found to be what their identity says
+plain : (bytes : List ℕ) → length bytes ≤ READ_LIMIT → IsIdentity bytes (Err WhyNotElf) → ReadsBytes bytes (Plain WhyNotElf)
+plain bytes small is =
+    no_identity WhyNotElf (cover-within (IsSomeWindow bytes) (length bytes) READ_LIMIT (λ r w. part-inside bytes r (inl w)) small) is
+
 -- the row that says of the version with the stamp that it is no ELF file
 row_with : StampFacts → RowFacts
 row_with stamp = record { name = record { path = path; stamp = stamp }; edition = EDITION; reading = Plain WhyNotElf }
@@ -33,7 +41,7 @@ first_is_true = record {
   reading = record {
     bytes = codes "x";
     known = record { placed = refl; one = inl (record { stamped = refl; filled = refl }) };
-    reads = first_is_refused;
+    reads = plain (codes "x") (omega arith) first_is_refused;
   };
 }
 
@@ -44,7 +52,7 @@ second_is_true = record {
   reading = record {
     bytes = codes "yy";
     known = record { placed = refl; one = inr (record { stamped = refl; filled = refl }) };
-    reads = second_is_refused;
+    reads = plain (codes "yy") (omega arith) second_is_refused;
   };
 }
 

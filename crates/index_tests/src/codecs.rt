@@ -7,16 +7,16 @@ use sample_rows::{elf, path, row};
 use std::alloc::Global;
 use std::process::Abort;
 
-/// The row bytes of `/a`, empty, changed at second 100, no ELF file, by the first edition.
+/// The row bytes of `/a`, empty, changed at second 100, no ELF file, by the second edition.
 static EXAMPLE: [u8; 29] = [
-    1, 2, 0, 0, 0, 0x2f, 0x61, 0, 0, 0, 0, 0, 0, 0, 0, 0x64, 0, 0, 0, 0, 0, 0, 0, 0, 0, 0, 0, 0, 1,
+    2, 2, 0, 0, 0, 0x2f, 0x61, 0, 0, 0, 0, 0, 0, 0, 0, 0x64, 0, 0, 0, 0, 0, 0, 0, 0, 0, 0, 0, 0, 1,
 ];
 
 /// What Python's `struct` packs, by the format's table, of `/b`, 258 bytes, changed 3 nanoseconds
 /// after the second before 1970, with code and debug information, the id `abcd` and the sources `/s`
 /// and `/t`.
 static WITH_IDENTITY: [u8; 48] = [
-    1, 2, 0, 0, 0, 0x2f, 0x62, 2, 1, 0, 0, 0, 0, 0, 0, 0xff, 0xff, 0xff, 0xff, 0xff, 0xff, 0xff,
+    2, 2, 0, 0, 0, 0x2f, 0x62, 2, 1, 0, 0, 0, 0, 0, 0, 0xff, 0xff, 0xff, 0xff, 0xff, 0xff, 0xff,
     0xff, 3, 0, 0, 0, 1, 3, 2, 0xab, 0xcd, 2, 0, 0, 0, 2, 0, 0, 0, 0x2f, 0x73, 2, 0, 0, 0, 0x2f,
     0x74,
 ];

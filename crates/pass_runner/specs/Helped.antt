@@ -16,7 +16,7 @@ use Rattle.pass_runner.specs.declared.helper.Helper.{Helper}
 use Rattle.pass_runner.specs.declared.helper.Task.{Task}
 use Rattle.pass_runner.specs.declared.helper.Task.TheVariants.{Look, Read}
 
--- the opening of a file of at most 1 GiB, of a path of none of these names, or a read of such a file; or a look
+-- the opening of a file of at most 64 GiB, of a path of none of these names, or a read of such a file; or a look
 abbrev pub IsSparing : List NameFacts → Heard → Type 0
 IsSparing spared (load path limit answer) = ⊥
 IsSparing spared (stat path answer) = Unit {0}

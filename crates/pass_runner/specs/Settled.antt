@@ -47,7 +47,7 @@ MayBeAsked listing roots names (read_at name at answer) = HadNoRow listing names
 abbrev pub Wants : {K : Type 0} → StateFacts K → Heard → Type 0
 Wants state = MayBeAsked (pass_or_none state.pass).listing state.roots (row_names state.rows)
 
--- one thing after the other: a file of at most 1 GiB was opened, and none of its bytes was read but those of its parts; or a look
+-- one thing after the other: a file of at most 64 GiB was opened, and none of its bytes was read but those of its parts; or a look
 -- was made at a path under a root
 pub data AreReadingsAndLooks (roots : List (List ℕ)) : List Heard → Type 0 where
   none_heard : AreReadingsAndLooks roots []

@@ -41,7 +41,7 @@ use Rattle.pass_runner.specs.declared.pass_end.PassEnd.TheVariants.{Whole, Misse
 use Rattle.pass_runner.specs.declared.pass_end.PassEnd.TheVariants.{KeeperFault, LogFull, OutOfMemory}
 use Rattle.pass_runner.specs.declared.summary.Summary.{Summary}
 
--- what the first hand heard: a whole walk of the roots, and then nothing but openings, up to 1 GiB, reads of what was opened, of
+-- what the first hand heard: a whole walk of the roots, and then nothing but openings, up to 64 GiB, reads of what was opened, of
 -- each file its parts alone, and looks at paths under a root
 pub record HearsShared (told : Bool) (version : Versions) (roots : List (List ℕ)) (walk : Walk) (walked more : List Heard)
     (before after : ShownTree) : Type 0 where

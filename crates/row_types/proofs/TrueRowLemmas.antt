@@ -1,5 +1,5 @@
 -- True rows of told worlds.
-use Rattle.std.proofs.Common.{◌≡◌, ℕ, ◌<◌, Bool, true, false, List, Result, Ok, Err, MatchBool, refl, sym, ◌∙◌, subst}
+use Rattle.std.proofs.Common.{◌≡◌, ℕ, ◌<◌, Bool, true, false, List, [], Result, Ok, Err, MatchBool, refl, sym, ◌∙◌, ap, subst}
 use Rattle.std.specs.Prelude.{nat_lt}
 use Rattle.std.proofs.lemmas.Bool.{lt-ltb}
 use Rattle.file_formats.specs.Table.{section_table}
@@ -10,7 +10,7 @@ use Rattle.file_formats.specs.declared.fault.Why.TheVariants.{TooLarge}
 use Rattle.row_types.specs.Name.{NameFacts}
 use Rattle.row_types.specs.Row.{RowFacts, too_large_row}
 use Rattle.row_types.specs.Stamp.{StampFacts}
-use Rattle.row_types.specs.Reading.{ReadsBytes, IsReading, IsVersionRead, IsNameReading, IsTrueRow}
+use Rattle.row_types.specs.Reading.{ReadsBytes, ReadsWithin, too_large, no_identity, with_sources, without_sources, IsReading, IsVersionRead, IsNameReading, IsTrueRow}
 use Rattle.row_types.specs.Sources.{AreSourcesOf}
 use Rattle.row_types.specs.declared.limits.TheConstants.{FILE_LIMIT}
 use Rattle.row_types.specs.declared.reading.Reading.{Reading}
@@ -47,24 +47,43 @@ sources_same : {bytes : List ℕ} (sources others : List (List ℕ)) → AreSour
 sources_same sources others p q = same_paths sources others p.ascends q.ascends
     (λ path h. (q.exact path).1 ((p.exact path).0 h)) (λ path h. (p.exact path).1 ((q.exact path).0 h))
 
+same_why : {why other : Why} → ◌≡◌ {A = Result Identity Why} (Err why) (Err other) → why ≡ other
+same_why e = cc
+
+same_id : {one other : Identity} → ◌≡◌ {A = Result Identity Why} (Ok one) (Ok other) → one ≡ other
+same_id e = cc
+
+neither : {why : Why} {one : Identity} → ◌≡◌ {A = Result Identity Why} (Err why) (Ok one) → ⊥
+neither e = absurd (cc)
+
+same_elf : {one other : Identity} {sources others : List (List ℕ)} → one ≡ other → sources ≡ others → Elf one sources ≡ Elf other others
+same_elf e f = cc
+
 -- bytes are found to be one thing
-bytes_read : (bytes : List ℕ) → IdentityIsOne bytes → (a b : Reading) → ReadsBytes bytes a → ReadsBytes bytes b → a ≡ b
-bytes_read bytes one (Plain why) (Plain other) p q =
-    let same = one (Err why) (Err other) p q in cc
-bytes_read bytes one (Plain why) (Elf ident sources) p q =
-    let same = one (Err why) (Ok ident) p q.0 in cc
-bytes_read bytes one (Elf ident sources) (Plain why) p q =
-    let same = one (Ok ident) (Err why) p.0 q in cc
-bytes_read bytes one (Elf ident sources) (Elf other others) p q =
-    let same = one (Ok ident) (Ok other) p.0 q.0 in
-    let listed = sources_same sources others p.1 q.1 in
-    cc
+pub reads-once : {limit : ℕ} {b : List ℕ} → IdentityIsOne b → {x y : Reading} → ReadsWithin limit b x → ReadsWithin limit b y → x ≡ y
+reads-once one (too_large c) (too_large d) = refl
+reads-once one (too_large c) (no_identity why not id) = absurd (not c)
+reads-once one (too_large c) (with_sources i s not id few are) = absurd (not c)
+reads-once one (too_large c) (without_sources i not id many) = absurd (not c)
+reads-once one (no_identity why not id) (too_large d) = absurd (not d)
+reads-once one (no_identity why not id) (no_identity other _ jd) = ap Plain (same_why (one _ _ id jd))
+reads-once one (no_identity why not id) (with_sources i s _ jd few are) = absurd (neither (one _ _ id jd))
+reads-once one (no_identity why not id) (without_sources i _ jd many) = absurd (neither (one _ _ id jd))
+reads-once one (with_sources i s not id few are) (too_large d) = absurd (not d)
+reads-once one (with_sources i s not id few are) (no_identity why _ jd) = absurd (neither (one _ _ jd id))
+reads-once one (with_sources i s not id few are) (with_sources j t _ jd _ bre) =
+    same_elf (same_id (one _ _ id jd)) (sources_same s t are bre)
+reads-once one (with_sources i s not id few are) (without_sources j _ jd many) = absurd (few many)
+reads-once one (without_sources i not id many) (too_large d) = absurd (not d)
+reads-once one (without_sources i not id many) (no_identity why _ jd) = absurd (neither (one _ _ jd id))
+reads-once one (without_sources i not id many) (with_sources j t _ jd few _) = absurd (few many)
+reads-once one (without_sources i not id many) (without_sources j _ jd _) = same_elf (same_id (one _ _ id jd)) refl
 
 -- a name's file is found to be one thing, where it has at most one content
 readings_same : (version : List ℕ → StampFacts → List ℕ → Type 0) (name : NameFacts) (unique : (bytes : List ℕ) → version name.path name.stamp bytes → IdentityIsOne bytes) (one : (a b : List ℕ) → version name.path name.stamp a → version name.path name.stamp b → a ≡ b) (a b : Reading) (large : Bool) → MatchBool large (a ≡ Plain TooLarge) (IsVersionRead version name a) → MatchBool large (b ≡ Plain TooLarge) (IsVersionRead version name b) → a ≡ b
 readings_same version name unique one a b true p q = p ∙ sym q
 readings_same version name unique one a b false p q =
-    bytes_read p.bytes (unique p.bytes p.known) a b p.reads (subst (λ bytes. ReadsBytes bytes b) (one q.bytes p.bytes q.known p.known) q.reads)
+    reads-once (unique p.bytes p.known) p.reads (subst (λ bytes. ReadsBytes bytes b) (one q.bytes p.bytes q.known p.known) q.reads)
 
 -- a name has at most one true row
 pub true_rows_same : (version : List ℕ → StampFacts → List ℕ → Type 0) → ((path : List ℕ) (stamp : StampFacts) (bytes : List ℕ) → version path stamp bytes → IdentityIsOne bytes) → ((path : List ℕ) (stamp : StampFacts) (a b : List ℕ) → version path stamp a → version path stamp b → a ≡ b) → (a b : RowFacts) → a.name ≡ b.name → IsTrueRow version a → IsTrueRow version b → a ≡ b

@@ -20,7 +20,7 @@ pub use build_id::{BuildId, LONGEST_ID, SHORTEST_ID};
 pub use faults::Faults;
 pub use file_formats::Why;
 pub use identity::{Ident, Kind};
-pub use limits::{EDITION, FILE_LIMIT, PATH_LIMIT, SEPARATOR};
+pub use limits::{EDITION, FILE_LIMIT, PATH_LIMIT, READ_LIMIT, SEPARATOR};
 pub use name::Name;
 pub use path::{CanonPath, is_canonical};
 pub use reading::Reading;

@@ -1,15 +1,19 @@
 -- How the reading of an open file ends, by what was read of it so far.
-use Rattle.std.proofs.Common.{◌≡◌, ◌⊎◌, inl, inr, ◌+◌, ◌≤◌, ℕ, Bool, List, [], ◌++◌, refl, arith, Result, Ok, Err}
+use Rattle.std.proofs.Common.{◌≡◌, ◌⊎◌, inl, inr, ◌+◌, ◌≤◌, ℕ, Bool, true, List, [], ◌++◌, refl, arith, Result, Ok, Err}
 use Rattle.std.specs.Prelude.{IfOk}
 use Rattle.file_formats.specs.Windows.{range}
 use Rattle.file_formats.proofs.PartLaws.{part-inside}
-use Rattle.file_picture.specs.Agrees.{AsksOf}
+use Rattle.file_picture.specs.Agrees.{AgreesWithPicture, AsksOf}
+use Rattle.file_picture.specs.Counts.{is_known, is_known_or}
 use Rattle.file_picture.specs.Passed.{HasPassed}
-use Rattle.file_picture.specs.Picture.{PictureFacts}
+use Rattle.file_picture.specs.Picture.{PictureFacts, IsCovered, IsPicture}
+use Rattle.file_picture.specs.ReadSoFar.{IsNextRead, IsReadSoFar}
+use Rattle.file_picture.proofs.ReadSoFarLaws.{next-read-keeps}
 use Rattle.row_types.specs.Faults.{Rose}
 use Rattle.row_types.specs.Name.{NameFacts}
 use Rattle.row_types.specs.Row.{RowFacts}
 use Rattle.row_types.specs.Stamp.{StampFacts}
+use Rattle.row_types.specs.declared.limits.TheConstants.{READ_LIMIT}
 use Rattle.tree_trait.specs.Fills.{HearsReads}
 use Rattle.tree_trait.specs.Found.{Versions}
 use Rattle.tree_trait.specs.Needs.{ReadsSoFar}
@@ -37,6 +41,16 @@ pub passes_on : {A E : Type 0} (old new : PictureFacts) (given : Result A E) (i 
     → IfOk given (λ _. (k : ℕ) → HasPassed old k → HasPassed new k) → HasPassed old i → IfOk given (λ _. HasPassed new i)
 passes_on old new (Ok a) i each passed = each i passed
 passes_on old new (Err e) i each passed = tt
+
+-- a part that may be read and was filled keeps what was read so far
+pub filled_so_far : {at len : ℕ} {stamp : StampFacts} {old new : PictureFacts} → IsPicture new → new.size ≡ old.size
+    → IsReadSoFar READ_LIMIT old → AsksOf (IsReadPart stamp) old at len → IsNextRead READ_LIMIT old at len
+    → ((place : ℕ) → is_known new place ≡ true → is_known_or old at len place ≡ true)
+    → ((from n : ℕ) → IsCovered old from n → IsCovered new from n) → ((b : List ℕ) → AgreesWithPicture b new → AgreesWithPicture b old)
+    → IsReadSoFar READ_LIMIT new
+filled_so_far {at} {len} {stamp} {old} {new} is size read asks next only keeps less =
+    next-read-keeps READ_LIMIT old at len new read (record { gone = asks.gone; among = λ b f. (asks.among b f).part }) next
+    (record { is = is; size = size; only = only; keeps = keeps; less = less })
 
 module _ {told : Bool} {version : Versions} {name : NameFacts} where
   -- the parts are there, and the row is made

@@ -12,7 +12,7 @@ use Rattle.tree_trait.specs.Heard.{Heard}
 use Rattle.tree_trait.specs.Needs.{FillsNeed}
 use Rattle.tree_trait.specs.Open.{was_opened}
 use Rattle.tree_trait.specs.Opened.{IsPictureOf}
-use Rattle.tree_trait.specs.Reader.{IsReadPart, IsRowOf}
+use Rattle.tree_trait.specs.Reader.{IsReadPart, IsRestPart, IsRowOf}
 use Rattle.tree_trait.specs.Shown.{ShownTree}
 use Rattle.tree_trait.specs.declared.filling.FillAnswer.{FillAnswer}
 use Rattle.tree_trait.specs.declared.filling.FillAnswer.TheVariants as filled
@@ -43,7 +43,7 @@ pub record MakesRow (told : Bool) (version : Versions) (name : NameFacts) (befor
     (row : RowFacts) : Type 0 where
   pub hears : HearsReads told version before after []
   pub seen : IsPictureOf version name old
-  pub is : IsOfEach (IsReadPart name.stamp) (λ b. IsRowOf name b row) old
+  pub is : IsOfEach (IsRestPart name.stamp) (λ b. IsRowOf name b row) old
 
 -- a part was not read whole
 pub record LeavesPart (told : Bool) (version : Versions) (name : NameFacts) (before after : ShownTree) (old : PictureFacts)

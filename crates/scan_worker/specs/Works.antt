@@ -19,7 +19,7 @@ use Rattle.scan_worker.specs.Read.{AsksParts, heard_reading}
 use Rattle.scan_worker.specs.declared.tally.Tally.{Tally}
 use Rattle.scan_worker.specs.declared.tally.WorkReport.{WorkReport}
 
--- an opening of a file of at most 1 GiB, of a path of none of these names; or a read of such a file
+-- an opening of a file of at most 64 GiB, of a path of none of these names; or a read of such a file
 abbrev pub IsSparingLoad : List NameFacts → Heard → Type 0
 IsSparingLoad spared (open_file path limit answer) = (limit ≡ FILE_LIMIT) × (stamp_at spared path ≡ None)
 IsSparingLoad spared (read_at name at answer) = stamp_at spared name.path ≡ None

@@ -3,6 +3,8 @@
 ghost use Rattle.std.specs.Prelude.{◌≡◌, ℕ, IfOk, MatchResult};
 ghost use Rattle.file_picture.specs.Agrees.{AsksOf};
 ghost use Rattle.file_picture.specs.Passed.{HasPassed};
+ghost use Rattle.file_picture.specs.ReadSoFar.{IsNextRead, IsReadSoFar};
+ghost use Rattle.row_types.specs.declared.limits.TheConstants.{READ_LIMIT};
 ghost use Rattle.tree_trait.specs.Opened.{opened_name, unread_picture};
 ghost use Rattle.tree_trait.specs.Reader.{IsReadPart};
 ghost use Rattle.scan_worker.specs.Parts.{ReadsNextPart, ReadsOpenFile, StopsReading};
@@ -50,6 +52,7 @@ fn read_more<W: Truth, T: Tree<W>, R: Reader<W>>(
     requires name { opened_name opened.old ≡ own }
     requires file { T.opened opened.old.file ≡ opened_name opened.old }
     requires passed { HasPassed opened.old.picture from.old }
+    requires read { IsReadSoFar READ_LIMIT opened.old.picture }
     ensures name { opened_name opened.new ≡ opened_name opened.old }
     ensures file { T.opened opened.new.file ≡ opened_name opened.new }
     ensures step { MatchResult result
@@ -58,6 +61,7 @@ fn read_more<W: Truth, T: Tree<W>, R: Reader<W>>(
         (λ end. StopsReading T.told W.version own (T.shows hand.old) (T.shows hand.new)
         opened.old.picture end) }
     ensures passed { IfOk result (λ _. HasPassed opened.new.picture from.new) }
+    ensures read { IfOk result (λ _. IsReadSoFar READ_LIMIT opened.new.picture) }
 {
     // For its clause: a version of the name agrees with the picture.
     opened.knows();
@@ -88,6 +92,8 @@ fn read_part<W: Truth, T: Tree<W>>(
     requires name { opened_name opened.old ≡ own }
     requires file { T.opened opened.old.file ≡ opened_name opened.old }
     requires asks { AsksOf (IsReadPart own.stamp) opened.old.picture at len }
+    requires next { IsNextRead READ_LIMIT opened.old.picture at len }
+    requires read { IsReadSoFar READ_LIMIT opened.old.picture }
     ensures name { opened_name opened.new ≡ opened_name opened.old }
     ensures file { T.opened opened.new.file ≡ opened_name opened.new }
     ensures step { MatchResult result
@@ -97,13 +103,15 @@ fn read_part<W: Truth, T: Tree<W>>(
         opened.old.picture end) }
     ensures passed { IfOk result (λ _.
         (i : ℕ) → HasPassed opened.old.picture i → HasPassed opened.new.picture i) }
+    ensures read { IfOk result (λ _. IsReadSoFar READ_LIMIT opened.new.picture) }
 {
     // For its clause: a version of the name agrees with the picture.
     opened.knows();
     match fill(alloc, hand, opened, at, len) {
         FillAnswer::Done => {
-            // For its clause: no more bytes are known than the file has.
+            // For its clauses: no more bytes are known than the file has, in a picture still.
             let _known = opened.picture().bytes();
+            let _size = opened.picture().size();
             Ok(own)
         }
         FillAnswer::Failed => Err(NameRead::Failed),

@@ -30,7 +30,7 @@ pub enum NameRead<W: Truth> {
 }
 
 /// Opens a listed file, and reads the parts of it that its row rests on. The opening's limit is
-/// 1 GiB; the row of a larger file says so, and nothing of it is read.
+/// [`FILE_LIMIT`]; the row of a larger file says so, and nothing of it is read.
 pub fn read_name<W: Truth, T: Tree<W>, R: Reader<W>>(
     alloc: Global,
     hand: &mut T,

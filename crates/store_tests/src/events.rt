@@ -117,7 +117,7 @@ fn passed_over(rt: &impl Abort, alloc: Global) -> Connection<MemStore> {
 fn events_change_the_tables_of_a_database_in_memory(rt: HostRuntime) {
     let mut connection = passed_over(&rt, rt.alloc());
     let row = "SELECT count(*) FROM kept WHERE path = '/a' \
-        AND body = x'01020000002f6103000000000000006400000000000000000000000001'";
+        AND body = x'02020000002f6103000000000000006400000000000000000000000001'";
     assert!(rt; number(&rt, &mut connection, row) == 1, "the row of /a");
     let rows = "SELECT count(*) FROM kept";
     assert!(rt; number(&rt, &mut connection, rows) == 1, "other rows");

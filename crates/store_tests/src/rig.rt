@@ -41,7 +41,7 @@ pub fn number<S: Alter>(rt: &impl Abort, connection: &mut Connection<S>, sql: &s
 /// nanoseconds, then that it is no ELF file.
 fn spelled(letter: u8, size: u8) -> [u8; 29] {
     [
-        1, 2, 0, 0, 0, 0x2f, letter, size, 0, 0, 0, 0, 0, 0, 0, 0x64, 0, 0, 0, 0, 0, 0, 0, 0, 0, 0,
+        2, 2, 0, 0, 0, 0x2f, letter, size, 0, 0, 0, 0, 0, 0, 0, 0x64, 0, 0, 0, 0, 0, 0, 0, 0, 0, 0,
         0, 0, 1,
     ]
 }

@@ -18,11 +18,11 @@ fn stopping_at(rt: &impl Abort, alloc: Global, sql: &str, stop_at: u64) -> Aroun
     around(rt, alloc, store(rt, alloc, sql, stop_at))
 }
 
-/// Two rows of edition 2, which isn't this program's.
+/// Two rows of the first edition, which isn't this program's.
 static STALE: &str = "CREATE TABLE kept(path TEXT PRIMARY KEY NOT NULL, body BLOB NOT NULL) STRICT;
     INSERT INTO kept VALUES
-    ('/a', x'02020000002f6100000000000000006400000000000000000000000001'),
-    ('/b', x'02020000002f6200000000000000006400000000000000000000000001')";
+    ('/a', x'01020000002f6100000000000000006400000000000000000000000001'),
+    ('/b', x'01020000002f6200000000000000006400000000000000000000000001')";
 
 /// The paths of the changes that a scan makes, in order: such rows are removed as the index opens,
 /// and then the row of each file is put.

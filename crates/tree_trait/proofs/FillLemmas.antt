@@ -11,8 +11,11 @@ use Rattle.std.proofs.lemmas.List.Sums.{sum_by-cons}
 use Rattle.file_formats.specs.Numbers.{bytes_at}
 use Rattle.file_formats.specs.Windows.{Range, range}
 use Rattle.file_picture.specs.Agrees.{AgreesWithPicture}
+use Rattle.file_picture.specs.Counts.{is_inside, is_known, is_known_or}
 use Rattle.file_picture.specs.Picture.{PictureFacts, IsAdded, IsCovered, IsFirstGap, IsRangeFree, known_byte, sum_of}
 use Rattle.file_picture.proofs.AgreeLaws.{added-agrees, added-covered, added-keeps, covered-joined, given-bytes}
+use Rattle.file_picture.proofs.CountLemmas.{is_in}
+use Rattle.file_picture.proofs.ReadSoFarLaws.{added-only, either-left, either-of, either-right, inside_in}
 use Rattle.row_types.specs.Name.{NameFacts}
 use Rattle.tree_trait.specs.Asks.{FitsAny, IsAnswerTold, ReadsOpened}
 use Rattle.tree_trait.specs.Fills.{AreRunsRead, FillsRange, HasFailedLast, HasRead, HearsReads, IsReadIn, IsReadOfFile, IsRunPut, IsRunRead, RunEnds}
@@ -141,6 +144,7 @@ pub record FillsSoFar (told : Bool) (version : Versions) (before after : ShownTr
   pub beyond : SameFrom now old (at + done)
   pub size : now.size ≡ old.size
   pub keeps : (from n : ℕ) → IsCovered old from n → IsCovered now from n
+  pub only : (q : ℕ) → is_known now q ≡ true → is_known_or old at len q ≡ true
   pub sum : sum_of old.pieces ≤ sum_of now.pieces
   pub rises : (IsCovered old at done → ⊥) → sum_of old.pieces < sum_of now.pieces
   pub so_far : List Heard
@@ -151,6 +155,21 @@ pub record FillsSoFar (told : Bool) (version : Versions) (before after : ShownTr
   pub runs : (end : FillAnswer) (rest : List Heard) → AreRunsRead name old (at + done) (at + len) end rest
       → AreRunsRead name old at (at + len) end (so_far ++ rest)
 
+-- a byte that is known once a run within a range was put was known before, or lies in the range
+only_more : (old now new : PictureFacts) (at len place : ℕ) (bytes : List ℕ)
+    → ((q : ℕ) → is_known now q ≡ true → is_known_or old at len q ≡ true) → IsAdded now place bytes new → at ≤ place
+    → place + length bytes ≤ at + len → (q : ℕ) → is_known new q ≡ true → is_known_or old at len q ≡ true
+only_more old now new at len place bytes only added above below q known =
+    by (either-of (is_known now q) (is_inside place (length bytes) q) (added-only now place bytes new added q known))
+  where
+    by : (is_known now q ≡ true) ⊎ (is_inside place (length bytes) q ≡ true) → is_known_or old at len q ≡ true
+    by (inl before) = only q before
+    by (inr here) =
+        let within = inside_in place (length bytes) q here in
+        let low = within.above in
+        let high = within.below in
+        either-right (is_known old q) (is_inside at len q) (is_in at len q (omega (arith, low, above)) (omega (arith, high, below)))
+
 module _ {told : Bool} {version : Versions} {before : ShownTree} {name : NameFacts} {old : PictureFacts} {at len : ℕ} where
   pub fills_none : at ≤ old.size → FillsSoFar told version before before name old old at len 0
   fills_none fits = record {
@@ -159,6 +178,7 @@ module _ {told : Bool} {version : Versions} {before : ShownTree} {name : NameFac
     beyond = λ _ _. refl;
     size = refl;
     keeps = λ _ _ c. c;
+    only = λ q known. either-left (is_known old q) (is_inside at len q) known;
     sum = omega arith;
     rises = λ never. absurd (never nothing);
     so_far = [];
@@ -222,6 +242,7 @@ module _ {told : Bool} {version : Versions} {before : ShownTree} {name : NameFac
             added.others from (inr (omega (arith, far, next))) ∙ h.beyond from (omega (arith, far, next, above));
         size = added.size ∙ size;
         keeps = λ from n c. added-keeps added from n (h.keeps from n c);
+        only = only_more old now new at len place bytes h.only added (omega (arith, above)) (omega (arith, below, low, long));
         sum = omega (arith, summed, more);
         rises = λ _. omega (arith, summed, more, long, some);
         so_far = h.so_far ++ read_at name place (room_filled bytes) ∷ [];

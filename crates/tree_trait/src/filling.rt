@@ -2,6 +2,7 @@
 
 ghost use Rattle.std.specs.Prelude.{◌≡◌, ℕ, ◌+◌, ◌≤◌, ◌<◌, List, true, length, IfErr, IfOk};
 ghost use Rattle.file_formats.specs.Numbers.{bytes_at};
+ghost use Rattle.file_picture.specs.Counts.{is_known, is_known_or};
 ghost use Rattle.file_picture.specs.Picture.{IsCovered, IsRangeFree, PictureFacts, sum_of};
 ghost use Rattle.row_types.specs.Faults.{Rose};
 ghost use Rattle.tree_trait.specs.Asks.{ReadsOpened};
@@ -109,6 +110,8 @@ pub fn fill<W: Truth, T: Tree<W>>(
     ensures opened { T.opened opened.new.file ≡ opened_name opened.new }
     ensures keeps { (from n : ℕ) → IsCovered opened.old.picture from n
         → IsCovered opened.new.picture from n }
+    ensures only { (place : ℕ) → is_known opened.new.picture place ≡ true
+        → is_known_or opened.old.picture at len place ≡ true }
     ensures sum { sum_of opened.old.picture.pieces ≤ sum_of opened.new.picture.pieces }
     ensures done { result ≡ FillAnswer.Done → IsCovered opened.new.picture at len }
     ensures rises { result ≡ FillAnswer.Done → (IsCovered opened.old.picture at len → ⊥)

@@ -2,6 +2,8 @@
 
 ghost use Rattle.std.specs.Prelude.{◌≡◌, IfOk};
 ghost use Rattle.file_picture.specs.Passed.{HasPassed};
+ghost use Rattle.file_picture.specs.ReadSoFar.{IsReadSoFar};
+ghost use Rattle.row_types.specs.declared.limits.TheConstants.{READ_LIMIT};
 ghost use Rattle.tree_trait.specs.Found.{found_name};
 ghost use Rattle.tree_trait.specs.Opened.{opened_name};
 ghost use Rattle.tree_trait.specs.Reader.{IsRowOf, SaysRow};
@@ -34,14 +36,16 @@ pub enum ViewAnswer<W: Truth> {
 /// Makes the row of a file, which is true in the world `W`. Threads share it.
 pub trait Reader<W: Truth>: Sync {
     /// The row of a file that was found under this name, by the reading of its bytes. A file above
-    /// 1 GiB has one too.
+    /// [`FILE_LIMIT`](row_types::FILE_LIMIT) has one too; of any other of more than
+    /// [`READ_LIMIT`](row_types::READ_LIMIT) bytes the answer is want of memory.
     fn read(&self, alloc: Global, name: Name, found: &Found<W>) -> Result<TrueRow<W>, AllocError>
         requires { found_name found.now ≡ name }
         ensures { IfOk result (IsRowOf name found.now.bytes) };
 
-    /// The row under the name of an open file, by the bytes that were read of it, once it has the
-    /// parts that decide it; else one of these that it hasn't. No section before one is looked at for
-    /// a build-id. A file above 1 GiB needs no part.
+    /// The row under the name of an open file, by the bytes that were read of it, once they decide it;
+    /// else a part that isn't there, and with which no more than
+    /// [`READ_LIMIT`](row_types::READ_LIMIT) bytes are known. No section before one is looked at for a
+    /// build-id. A file above [`FILE_LIMIT`](row_types::FILE_LIMIT) needs no part.
     fn read_view<F: Drop>(
         &self,
         alloc: Global,
@@ -51,5 +55,6 @@ pub trait Reader<W: Truth>: Sync {
     ) -> ViewAnswer<W>
         requires name { opened_name opened.now ≡ name }
         requires passed { HasPassed opened.now.picture from }
+        requires read { IsReadSoFar READ_LIMIT opened.now.picture }
         ensures { SaysRow name opened.now.picture result };
 }

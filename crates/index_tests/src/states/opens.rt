@@ -49,24 +49,41 @@ fn kept_paths(rt: &impl Abort, alloc: Global, store: &mut MemStore<OpenWorld>) -
     paths_text(rt, alloc, answer)
 }
 
-/// Opens the index, and compares its rows and how it stands.
-fn opens_with_two(rt: &impl Abort, alloc: Global, store: &mut MemStore<OpenWorld>) {
+/// Opens the index, and compares its rows, so many, and how it stands.
+fn opens_with(
+    rt: &impl Abort,
+    alloc: Global,
+    store: &mut MemStore<OpenWorld>,
+    want: &str,
+    count: u64,
+) {
     let index = opened(alloc, store).ok().expect(rt, "an index opens");
     let (rows, standing) = ended(rt, alloc, store, index);
-    assert!(rt; rows.as_str() == "/a 0, /c 0, ");
-    let two = Standing {
-        log: 2,
-        rows: 2,
+    assert!(rt; rows.as_str() == want);
+    let stands = Standing {
+        log: count,
+        rows: count,
         ..NOTHING
     };
-    assert!(rt; standing == two);
+    assert!(rt; standing == stands);
 }
 
 #[test]
 fn an_index_opens_with_the_rows_of_its_edition(rt: HostRuntime) {
     let alloc = rt.alloc();
-    let mut store = store_of(&rt, alloc, [1, 2, 1]);
-    opens_with_two(&rt, alloc, &mut store);
+    let mut store = store_of(&rt, alloc, [2, 3, 2]);
+    opens_with(&rt, alloc, &mut store, "/a 0, /c 0, ", 2);
     assert!(rt; kept_paths(&rt, alloc, &mut store).as_str() == "/a /c ");
-    opens_with_two(&rt, alloc, &mut store);
+    opens_with(&rt, alloc, &mut store, "/a 0, /c 0, ", 2);
+}
+
+#[test]
+fn rows_of_the_first_edition_and_of_a_later_one_go_at_the_first_opening(rt: HostRuntime) {
+    let alloc = rt.alloc();
+    let mut store = store_of(&rt, alloc, [1, 2, 9]);
+    opens_with(&rt, alloc, &mut store, "/b 0, ", 1);
+    assert!(rt; kept_paths(&rt, alloc, &mut store).as_str() == "/b ");
+    let mut first = store_of(&rt, alloc, [1, 1, 1]);
+    opens_with(&rt, alloc, &mut first, "", 0);
+    assert!(rt; kept_paths(&rt, alloc, &mut first).as_str() == "");
 }

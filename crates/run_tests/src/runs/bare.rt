@@ -21,7 +21,7 @@ static RUNS: [Run; 3] = [
     Run(
         &["trial", "7", "40", "3"],
         b"trial: 40 files, 20 executables, 20 debuginfo, 20 sources, \
-            index b0ba1a7b7d4d48d056cc93d85346c4acea38d99258b091e5c6402141b99b1de3\n",
+            index 1d67394e737c8736f98a34978d6ca95b8ac131a37c52c0bbe7579f5a4188394b\n",
         "usage: dbgd ident FILE, sources FILE, section FILE NAME, query -d DB ID, \
             scan -d DB DIR, serve -d DB DIR, trial SEED FILES WORKERS\n",
         0,
@@ -29,7 +29,7 @@ static RUNS: [Run; 3] = [
     Run(
         &["query", "-d", "m", "ffff"],
         b"trial: 40 files, 20 executables, 20 debuginfo, 20 sources, \
-            index b0ba1a7b7d4d48d056cc93d85346c4acea38d99258b091e5c6402141b99b1de3\n",
+            index 1d67394e737c8736f98a34978d6ca95b8ac131a37c52c0bbe7579f5a4188394b\n",
         "usage: dbgd ident FILE, sources FILE, section FILE NAME, query -d DB ID, \
             scan -d DB DIR, serve -d DB DIR, trial SEED FILES WORKERS\ndbgd: nothing found\n",
         3,

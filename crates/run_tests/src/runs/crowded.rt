@@ -4,9 +4,9 @@ use row_types::{OpenWorld, Stamp};
 use std::alloc::Global;
 use tree_trait::{DirAnswer, LoadAnswer, OpenAnswer, RoomAnswer, StatAnswer, Tree};
 
-/// The stamp of a file of one byte more than 1 GiB.
+/// The stamp of a file of one byte more than 64 GiB.
 const LARGE: Stamp = Stamp {
-    size: 1_073_741_825,
+    size: 68_719_476_737,
     secs: 100,
     nanos: 0,
 };

@@ -32,7 +32,7 @@ const LINE: &[u8] =
 /// The path `/srv/bin/gone`, and the row bytes of this file, of one byte and changed at second 1, no ELF
 /// file. It isn't there, for which the second hand looks.
 const STRAY: &[u8] =
-    b"/srv/bin/gone\x01\x0d\0\0\0/srv/bin/gone\x01\0\0\0\0\0\0\0\x01\0\0\0\0\0\0\0\0\0\0\0\0\x01";
+    b"/srv/bin/gone\x02\x0d\0\0\0/srv/bin/gone\x01\0\0\0\0\0\0\0\x01\0\0\0\0\0\0\0\0\0\0\0\0\x01";
 
 /// How many calls a walk makes: three looks at the roots, five readings, twelve looks. Twelve openings
 /// and 32 reads follow.

@@ -10,8 +10,8 @@ use std::process::Abort;
 
 const SCAN: &[&str] = &["scan", "-d", "m", "/srv"];
 
-/// The row bytes of `/old/x`, of one byte and changed at second 1, no ELF file, by edition 1.
-const OLD: &[u8] = b"\x01\x06\0\0\0/old/x\x01\0\0\0\0\0\0\0\x01\0\0\0\0\0\0\0\0\0\0\0\0\x01";
+/// The row bytes of `/old/x`, of one byte and changed at second 1, no ELF file, by edition 2.
+const OLD: &[u8] = b"\x02\x06\0\0\0/old/x\x01\0\0\0\0\0\0\0\x01\0\0\0\0\0\0\0\0\0\0\0\0\x01";
 
 /// Those of `/srv/bin/run.sh`, of ten bytes and changed at second 100, by edition 9.
 const STRAY: &[u8] =
@@ -34,6 +34,29 @@ static OVERLAPPING: [Run; 1] = [Run(
     0,
 )];
 
+/// The row bytes of `/b`, of ten bytes and changed at second 100, an executable with the id `abcd` and without
+/// sources, by the first edition and by this one.
+static FIRST: &[u8] =
+    b"\x01\x02\0\0\0/b\x0a\0\0\0\0\0\0\0\x64\0\0\0\0\0\0\0\0\0\0\0\x01\x01\x02\xab\xcd\0\0\0\0";
+
+static SECOND: &[u8] =
+    b"\x02\x02\0\0\0/b\x0a\0\0\0\0\0\0\0\x64\0\0\0\0\0\0\0\0\0\0\0\x01\x01\x02\xab\xcd\0\0\0\0";
+
+/// A store that keeps one of them.
+fn store_with(rt: &impl Abort, alloc: Global, bytes: &[u8]) -> MemStore<OpenWorld> {
+    let kept = Kept::of(alloc, "/b", bytes).expect(rt, "memory");
+    let kept = vec![in alloc; kept].expect(rt, "memory");
+    MemStore::new(alloc, kept, None, Vec::new(alloc))
+}
+
+const QUERY: &[&str] = &["query", "-d", "m", "abcd"];
+
+/// A row of the first edition goes as the store is opened, so that nothing is found until a scan reads its
+/// file anew.
+static OF_FIRST: [Run; 1] = [Run(QUERY, b"", "dbgd: nothing found\n", 3)];
+
+static OF_SECOND: [Run; 1] = [Run(QUERY, b"executable /b\n", "", 0)];
+
 /// Both scans find a value that is no row.
 static BAD: [Run; 2] = [
     Run(SCAN, b"", "dbgd: bad row /a\n", 7),
@@ -53,4 +76,20 @@ fn stores_that_hold_rows_are_opened(rt: HostRuntime) {
         &OVERLAPPING,
     );
     run_kept(&rt, alloc, &Two, &[0], &BAD);
+}
+
+#[test]
+fn a_row_of_the_first_edition_is_found_no_more(rt: HostRuntime) {
+    let alloc = rt.alloc();
+    for (bytes, runs) in [(FIRST, &OF_FIRST), (SECOND, &OF_SECOND)] {
+        let hands = vec![in alloc; reference(&rt, alloc)].expect(&rt, "memory");
+        run_over(
+            &rt,
+            alloc,
+            hands,
+            store_with(&rt, alloc, bytes),
+            &SOUND,
+            runs,
+        );
+    }
 }

@@ -5,11 +5,11 @@ use crate::runs::rig::{Run, SOUND, run_all};
 
 /// The line of the 40 files of seed 7.
 static FORTY: &[u8] = b"trial: 40 files, 20 executables, 20 debuginfo, 20 sources, \
-    index b0ba1a7b7d4d48d056cc93d85346c4acea38d99258b091e5c6402141b99b1de3\n";
+    index 1d67394e737c8736f98a34978d6ca95b8ac131a37c52c0bbe7579f5a4188394b\n";
 
 /// The line of one file of the largest seed, which has code, debug information and two sources.
 static ONE: &[u8] = b"trial: 1 files, 1 executables, 1 debuginfo, 2 sources, \
-    index 6374a2b26c4ab24fc452da4a13dc9abeb5eb876ffecedaf2cddd1258dce981f6\n";
+    index 2758544e0494c9fbff37b3e321015d5a0d1b98c62fc747253c3b9860db171cb2\n";
 
 /// Numbers of workers, those at both ends of the range among them.
 static WORKERS: [&str; 5] = ["1", "3", "8", "0000000064", "2"];

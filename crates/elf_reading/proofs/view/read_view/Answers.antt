@@ -9,7 +9,7 @@ returns-then-name-gt-FILE_LIMIT g c =
 
 pub returns-in-Need : goal.returns-in-Need
 returns-in-Need g c =
-    (refl, row_asked c.args.name c.args.picture.now c.in-Need.at c.in-Need.len (search rules) c.in-Need.ensures.0, c.in-Need.ensures.1)
+    (refl, row_asked c.args.name c.args.picture.now c.in-Need.at c.in-Need.len (search rules) c.in-Need.ensures.0, c.in-Need.ensures.1, c.in-Need.ensures.2)
 
 pub returns-in-Read : goal.returns-in-Read
 returns-in-Read g c =

@@ -10,7 +10,7 @@ read_view-requires-clause-picture g c = record {
     placed = c.name_of-name.ensures.path;
     one = inl (record { stamped = c.name_of-name.ensures.stamp; filled = refl });
   };
-  agrees = c.requires;
+  agrees = c.requires.agrees;
 }
 
 pub read_view-requires-clause-passed : goal.read_view-requires-clause-passed

@@ -27,6 +27,12 @@ read_part-requires-clause-asks g c = λ κs within.
     subst (λ (n : NameFacts). AsksOf (IsReadPart n.stamp) c.args.opened.now.picture c.in-Need.at c.in-Need.len)
     (sym c.in-Need.ensures.0) c.in-Need.ensures.1
 
+pub read_part-requires-clause-next : goal.read_part-requires-clause-next
+read_part-requires-clause-next g c = λ κs within. c.in-Need.ensures.2
+
+pub read_part-requires-clause-read : goal.read_part-requires-clause-read
+read_part-requires-clause-read g c = λ κs within. c.requires.read
+
 pub read_part-requires-clause-file : goal.read_part-requires-clause-file
 read_part-requires-clause-file g c = λ κs within. c.requires.file
 
@@ -40,4 +46,7 @@ returns-clause-step g c =
 
 pub returns-clause-passed : goal.returns-clause-passed
 returns-clause-passed g c =
-    passes_on c.args.opened.now.picture c.read_part.new.opened.picture c.read_part.result c.in-Need.next c.read_part.ensures.passed c.in-Need.ensures.2
+    passes_on c.args.opened.now.picture c.read_part.new.opened.picture c.read_part.result c.in-Need.next c.read_part.ensures.passed c.in-Need.ensures.3
+
+pub returns-clause-read : goal.returns-clause-read
+returns-clause-read g c = c.read_part.ensures.read

@@ -1,11 +1,11 @@
 -- The part was filled, or what was read of it is told.
-use Rattle.std.proofs.Common.{◌≡◌, ◌+◌, ◌∙◌, inr, refl, ap, subst, arith}
+use Rattle.std.proofs.Common.{◌+◌, ◌∙◌, inr, refl, ap, subst, arith}
 use Rattle.file_picture.proofs.PassedLaws.{passed-more}
-use Rattle.file_picture.specs.Picture.{PictureFacts, sum_of}
+use Rattle.file_picture.specs.Picture.{PictureFacts, IsPicture, sum_of}
 use Rattle.row_types.specs.Name.{NameFacts}
 use Rattle.tree_trait.specs.Fills.{FillsRange}
 use Rattle.tree_trait.specs.declared.filling.FillAnswer.TheVariants.{Done, Failed, OutOfMemory}
-use Rattle.scan_worker.proofs.PartLemmas.{part_fits}
+use Rattle.scan_worker.proofs.PartLemmas.{filled_so_far, part_fits}
 use Rattle.scan_worker.proofs.parts.read_part.Goals as goal
 
 pub fill-requires-clause-inside : goal.fill-requires-clause-inside
@@ -38,6 +38,16 @@ returns-in-Done-clause-step g c = record {
 
 pub returns-in-Done-clause-passed : goal.returns-in-Done-clause-passed
 returns-in-Done-clause-passed g c = λ i passed. passed-more c.in-Done.ensures.reads.less c.in-Done.ensures.keeps passed
+
+pub returns-in-Done-clause-read : goal.returns-in-Done-clause-read
+returns-in-Done-clause-read g c =
+    filled_so_far (subst IsPicture c.picture-in-Done.ensures.value c.size-size.ensures.holds)
+    (let before = c.knows.ensures.holds.sized in
+    let after = ap (λ (p : PictureFacts). p.size) c.picture.ensures.value in
+    let sized = c.picture.ensures.holds.sized in
+    let same = ap (λ (n : NameFacts). n.stamp.size) c.in-Done.ensures.name in
+    omega (arith, before, after, sized, same))
+    c.requires.read c.requires.asks c.requires.next c.in-Done.ensures.only c.in-Done.ensures.keeps c.in-Done.ensures.reads.less
 
 pub returns-in-Failed-clause-step : goal.returns-in-Failed-clause-step
 returns-in-Failed-clause-step g c = (

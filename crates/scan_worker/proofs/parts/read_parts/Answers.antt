@@ -1,7 +1,10 @@
 -- One part after the other, until the row is made or the reading stops.
-use Rattle.std.proofs.Common.{◌≡◌, ◌<◌, ◌-◌, sym, ◌∙◌, ap, refl, subst, arith}
+use Rattle.std.proofs.Common.{sym, ◌∙◌, ap, refl, subst, arith}
+use Rattle.file_picture.specs.ReadSoFar.{IsReadSoFar}
 use Rattle.file_picture.proofs.PassedLaws.{passed-first}
+use Rattle.file_picture.proofs.ReadSoFarLaws.{unread-so_far}
 use Rattle.row_types.specs.Name.{NameFacts}
+use Rattle.row_types.specs.declared.limits.TheConstants.{READ_LIMIT}
 use Rattle.tree_trait.specs.Opened.{unread_picture}
 use Rattle.tree_trait.specs.Needs.{ReadsSoFar}
 use Rattle.tree_trait.specs.Reader.{IsReadPart}
@@ -19,6 +22,7 @@ parts-init g c = (
   c.requires.name,
   c.requires.file,
   passed-first c.args.opened.picture,
+  subst (IsReadSoFar READ_LIMIT) (sym c.requires.unread) (unread-so_far READ_LIMIT c.args.opened.stamp.size),
 )
 
 pub read_more-requires-clause-name : goal.read_more-requires-clause-name
@@ -30,6 +34,9 @@ read_more-requires-clause-file g c = λ κs within. c.parts.invariant.3
 pub read_more-requires-clause-passed : goal.read_more-requires-clause-passed
 read_more-requires-clause-passed g c = λ κs within. c.parts.invariant.4
 
+pub read_more-requires-clause-read : goal.read_more-requires-clause-read
+read_more-requires-clause-read g c = λ κs within. c.parts.invariant.5
+
 pub parts-preserved : goal.parts-preserved
 parts-preserved g c =
     let step = subst (λ (n : NameFacts). ReadsNextPart g.T.Tree.told g.W.Truth.version n (g.T.Tree.shows c.parts.hand)
@@ -40,6 +47,7 @@ parts-preserved g c =
       c.in-Ok.ensures.name ∙ c.parts.invariant.2,
       c.in-Ok.ensures.file,
       c.in-Ok.ensures.passed,
+      c.in-Ok.ensures.read,
     )
 
 pub parts-smaller : goal.parts-smaller

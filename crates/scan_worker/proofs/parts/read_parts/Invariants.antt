@@ -2,6 +2,8 @@
 use Rattle.std.proofs.Common.{◌≡◌, ◌-◌}
 use Rattle.file_picture.specs.Passed.{HasPassed}
 use Rattle.file_picture.specs.Picture.{sum_of}
+use Rattle.file_picture.specs.ReadSoFar.{IsReadSoFar}
+use Rattle.row_types.specs.declared.limits.TheConstants.{READ_LIMIT}
 use Rattle.tree_trait.specs.Opened.{opened_name}
 use Rattle.tree_trait.specs.Needs.{ReadsSoFar}
 use Rattle.tree_trait.specs.Reader.{IsReadPart}
@@ -15,6 +17,7 @@ invariant-parts g l =
     × (opened_name l.opened ≡ l.fn.own)
     × (g.T.Tree.opened l.opened.file ≡ opened_name l.opened)
     × HasPassed l.opened.picture l.from
+    × IsReadSoFar READ_LIMIT l.opened.picture
 
 abbrev pub decreases-parts : goal.decreases-parts
 decreases-parts g l = l.fn.own.stamp.size - sum_of l.opened.picture.pieces

@@ -1,5 +1,6 @@
 -- Each run is the first of the range that isn't known, until none is left or one stops.
-use Rattle.std.proofs.Common.{◌+◌, ◌-◌, refl, sym, ◌∙◌, ap, subst, arith}
+use Rattle.std.proofs.Common.{◌≡◌, ◌+◌, ◌-◌, true, refl, sym, ◌∙◌, ap, subst, arith}
+use Rattle.file_picture.specs.Counts.{is_known}
 use Rattle.file_picture.specs.Picture.{IsCovered, IsFirstGap, IsRangeFree, sum_of}
 use Rattle.tree_trait.specs.Fills.{RunEnds}
 use Rattle.tree_trait.specs.declared.filling.FillAnswer.TheVariants.{Done, Failed, OutOfMemory}
@@ -69,6 +70,9 @@ returns-in_default-clause-reads g c =
 pub returns-in_default-clause-keeps : goal.returns-in_default-clause-keeps
 returns-in_default-clause-keeps g c = c.loop-done.invariant.0.keeps
 
+pub returns-in_default-clause-only : goal.returns-in_default-clause-only
+returns-in_default-clause-only g c = c.loop-done.invariant.0.only
+
 pub returns-in_default-clause-sum : goal.returns-in_default-clause-sum
 returns-in_default-clause-sum g c = c.loop-done.invariant.0.sum
 
@@ -90,6 +94,9 @@ returns-clause-reads g c =
 
 pub returns-clause-keeps : goal.returns-clause-keeps
 returns-clause-keeps g c = c.loop-done.invariant.0.keeps
+
+pub returns-clause-only : goal.returns-clause-only
+returns-clause-only g c = c.loop-done.invariant.0.only
 
 pub returns-clause-sum : goal.returns-clause-sum
 returns-clause-sum g c = c.loop-done.invariant.0.sum
@@ -125,6 +132,10 @@ pub returns-in-Failed-clause-keeps : goal.returns-in-Failed-clause-keeps
 returns-in-Failed-clause-keeps g c = λ from n covered.
     subst (λ p. IsCovered p from n) (sym c.in-Failed.ensures.reads.2.0) (c.loop-done.invariant.0.keeps from n covered)
 
+pub returns-in-Failed-clause-only : goal.returns-in-Failed-clause-only
+returns-in-Failed-clause-only g c = λ place known.
+    c.loop-done.invariant.0.only place (subst (λ p. is_known p place ≡ true) c.in-Failed.ensures.reads.2.0 known)
+
 pub returns-in-Failed-clause-sum : goal.returns-in-Failed-clause-sum
 returns-in-Failed-clause-sum g c =
     let same = ap (λ p. sum_of p.pieces) c.in-Failed.ensures.reads.2.0 in
@@ -148,6 +159,10 @@ returns-in-OutOfMemory-clause-opened g c = c.in-OutOfMemory.ensures.opened
 pub returns-in-OutOfMemory-clause-keeps : goal.returns-in-OutOfMemory-clause-keeps
 returns-in-OutOfMemory-clause-keeps g c = λ from n covered.
     subst (λ p. IsCovered p from n) (sym c.in-OutOfMemory.ensures.reads.2.0) (c.loop-done.invariant.0.keeps from n covered)
+
+pub returns-in-OutOfMemory-clause-only : goal.returns-in-OutOfMemory-clause-only
+returns-in-OutOfMemory-clause-only g c = λ place known.
+    c.loop-done.invariant.0.only place (subst (λ p. is_known p place ≡ true) c.in-OutOfMemory.ensures.reads.2.0 known)
 
 pub returns-in-OutOfMemory-clause-sum : goal.returns-in-OutOfMemory-clause-sum
 returns-in-OutOfMemory-clause-sum g c =
