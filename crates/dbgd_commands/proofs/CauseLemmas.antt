@@ -6,14 +6,16 @@ use Rattle.file_formats.specs.declared.fault.Why.{Why}
 use Rattle.file_formats.specs.Parts.{IsSomePart, IsSomeSection}
 use Rattle.file_formats.specs.Windows.{IsSomeWindow, Range}
 use Rattle.file_parts.specs.AtPath.{FileAnswer, file_read, file_too_large, file_gone, file_failed, file_no_memory}
-use Rattle.row_types.specs.Sources.{AreSourcesOf}
+use Rattle.file_formats.specs.Table.{IsSectionAnswer}
+use Rattle.row_types.specs.Reading.{ReadsBytes}
+use Rattle.row_types.specs.declared.reading.Reading.TheVariants.{Elf}
 use Rattle.tree_trait.specs.Needs.{IsOfReads}
 use Rattle.dbgd_commands.specs.CommandCauses.{FileStatus}
 use Rattle.dbgd_commands.specs.Endings.{EndsSaying, Saying, Streams}
 use Rattle.dbgd_commands.specs.File.{RunsFile, RunsOn}
 use Rattle.dbgd_commands.specs.Ident.{SaysFile, SaysIdent}
 use Rattle.dbgd_commands.specs.Scene.{FirstGoes, FirstRose, ProgramScene, Setting}
-use Rattle.dbgd_commands.specs.Section.{SaysNamed, SaysSection}
+use Rattle.dbgd_commands.specs.Section.{SaysBytes, SaysNamed, SaysSection}
 use Rattle.dbgd_commands.specs.Sources.{SaysListed, SaysSources}
 use Rattle.dbgd_commands.specs.declared.status.Status.{Status}
 use Rattle.dbgd_commands.specs.declared.status.Status.TheVariants as status
@@ -48,21 +50,24 @@ module _ {T : Type 0} (s : Setting T) (before after : ProgramScene T) where
   ident_by path file_failed end hand said = subst (FileStatus s before after) (sym said.ends) (inl (hand refl))
   ident_by path file_no_memory end hand said = subst (FileStatus s before after) (sym said.ends) tt
 
-  named_status : (r : Result Identity Why) (section : Option (List ℕ)) (end : Status)
-      → SaysNamed r section before.streams after.streams end → FileStatus s before after end
-  named_status (Ok i) (Some bytes) end ends = file_ends tt ends
-  named_status (Ok i) None end said = subst (FileStatus s before after) (sym said.ends) tt
-  named_status (Err why) section end said = subst (FileStatus s before after) (sym said.ends) tt
+  bytes_status : (section : Option (List ℕ)) (end : Status) → SaysBytes section before.streams after.streams end → FileStatus s before after end
+  bytes_status (Some bytes) end ends = file_ends tt ends
+  bytes_status None end said = subst (FileStatus s before after) (sym said.ends) tt
+
+  named_status : (Is : Option (List ℕ) → Type 0) (r : Result Identity Why) (end : Status)
+      → SaysNamed Is r before.streams after.streams end → FileStatus s before after end
+  named_status Is (Ok i) end said = bytes_status said.section end said.says
+  named_status Is (Err why) end said = subst (FileStatus s before after) (sym said.ends) tt
 
   section_by : (path name : List ℕ) (answer : FileAnswer) (end : Status) → Failing answer
       → SaysSection path name answer before.streams after.streams end → FileStatus s before after end
-  section_by path name (file_read stamp reads) end hand said = named_status said.0 said.1 end said.4
+  section_by path name (file_read stamp reads) end hand said = named_status (λ section. IsOfReads stamp.size reads (λ b. IsSectionAnswer b name section)) said.0 end said.2
   section_by path name file_too_large end hand said = subst (FileStatus s before after) (sym said.ends) tt
   section_by path name file_gone end hand said = subst (FileStatus s before after) (sym said.ends) tt
   section_by path name file_failed end hand said = subst (FileStatus s before after) (sym said.ends) (inl (hand refl))
   section_by path name file_no_memory end hand said = subst (FileStatus s before after) (sym said.ends) tt
 
-  listed_status : (Are : List (List ℕ) → Type 0) (r : Result Identity Why) (end : Status)
+  listed_status : (Are : Identity → List (List ℕ) → Type 0) (r : Result Identity Why) (end : Status)
       → SaysListed Are r before.streams after.streams end → FileStatus s before after end
   listed_status Are (Ok i) end (inl said) = file_ends tt said.ends
   listed_status Are (Ok i) end (inr said) = subst (FileStatus s before after) (sym said.ends) tt
@@ -71,7 +76,7 @@ module _ {T : Type 0} (s : Setting T) (before after : ProgramScene T) where
   sources_by : (path : List ℕ) (answer : FileAnswer) (end : Status) → Failing answer
       → SaysSources path answer before.streams after.streams end → FileStatus s before after end
   sources_by path (file_read stamp reads) end hand said =
-      listed_status (λ paths. IsOfReads stamp.size reads (λ b. AreSourcesOf b paths)) said.0 end said.2
+      listed_status (λ i paths. IsOfReads stamp.size reads (λ b. ReadsBytes b (Elf i paths))) said.0 end said.2
   sources_by path file_too_large end hand said = subst (FileStatus s before after) (sym said.ends) tt
   sources_by path file_gone end hand said = subst (FileStatus s before after) (sym said.ends) tt
   sources_by path file_failed end hand said = subst (FileStatus s before after) (sym said.ends) (inl (hand refl))

@@ -1,6 +1,7 @@
 -- What is known of a file by a picture in which all is there that an answer rests on.
-use Rattle.std.proofs.Common.{ℕ, ◌+◌, ◌≤◌, List, length, Ok, Err, inl, inr, arith}
-use Rattle.file_formats.specs.Identity.{Identity}
+use Rattle.std.proofs.Common.{ℕ, ◌+◌, ◌≤◌, List, length, Option, Result, Ok, Err, IfOk, inl, inr, arith}
+use Rattle.file_formats.specs.DwarfSections.{IsDebugAnswer}
+use Rattle.file_formats.specs.DwarfUnits.{DebugSections}
 use Rattle.file_formats.specs.Parts.{IsSomePart}
 use Rattle.file_formats.specs.Windows.{IsSomeWindow, Range, range}
 use Rattle.file_formats.specs.declared.fault.Why.{Why}
@@ -10,17 +11,13 @@ use Rattle.file_picture.specs.Agrees.{AgreesWithPicture, AsksOf, IsOfEach, fille
 use Rattle.file_picture.specs.Picture.{IsPicture, PictureFacts}
 use Rattle.file_picture.proofs.AgreeLaws.{filled-agrees}
 use Rattle.row_types.specs.Name.{NameFacts}
-use Rattle.row_types.specs.Reading.{ReadsBytes}
 use Rattle.row_types.specs.Sources.{AreSourcesOf}
 use Rattle.row_types.specs.Stamp.{StampFacts}
-use Rattle.row_types.specs.declared.reading.Reading.TheVariants.{Elf, Plain}
 use Rattle.tree_trait.specs.Found.{Versions}
 use Rattle.tree_trait.specs.Heard.{Heard}
 use Rattle.tree_trait.specs.Needs.{IsOfReads}
 use Rattle.tree_trait.specs.Opened.{HoldsPicture, IsPictureOf}
-use Rattle.elf_classify.specs.DebugViews.{KnowsIdentity}
 use Rattle.elf_classify.specs.Views.{IsIdentityOfEach}
-use Rattle.elf_reading.proofs.ViewLemmas.{plain_seen}
 use Rattle.file_parts.specs.Wholes.{IsReadWhole, IsThereWhole, needs_of}
 use Rattle.file_parts.specs.declared.part.FilePart.{FilePart}
 use Rattle.file_parts.specs.declared.part.FilePart.TheVariants as part
@@ -31,7 +28,9 @@ window_asked n = record { gone = n.gone; among = λ b f. inl (n.among b f) }
 
 -- the parts of a file without an identity are its windows
 pub plain_there : (p : PictureFacts) (why : Why) → IsIdentityOfEach p (Err why) → IsThereWhole IsSomePart p
-plain_there p why s = (plain_seen p why s).there
+plain_there p why s b f r (inl w) = s.there b f r w
+plain_there p why s b f r (inr d) =
+    let both = identity-unique b (Err why) (Ok d.has.identity) (s.is b f) d.has.is_identity in absurd (cc)
 
 -- where all is there, nothing is needed
 pub none_needed : {Of : List ℕ → Range → Type 0} {p : PictureFacts} {at len : ℕ} → IsPicture p → IsThereWhole Of p
@@ -40,18 +39,12 @@ none_needed {p = p} {at} {len} is there asks =
     asks.gone (there (filled_with_zeros p) (filled-agrees p is) (range at len)
     (asks.among (filled_with_zeros p) (filled-agrees p is)))
 
--- no file has an identity and none
-pub not_plain : (p : PictureFacts) (why : Why) → IsPicture p → KnowsIdentity p
-    → IsOfEach IsSomePart (λ b. ReadsBytes b (Plain why)) p → ⊥
-not_plain p why is knows s =
-    let both = identity-unique (filled_with_zeros p) (Ok knows.identity) (Err why)
-    (knows.known.is (filled_with_zeros p) (filled-agrees p is)) (s.is (filled_with_zeros p) (filled-agrees p is)) in
-    absurd (cc)
-
--- the sources of what a file is found to be are its sources
-pub sources_each : (p : PictureFacts) (ident : Identity) (sources : List (List ℕ))
-    → IsOfEach IsSomePart (λ b. ReadsBytes b (Elf ident sources)) p → IsOfEach IsSomePart (λ b. AreSourcesOf b sources) p
-sources_each p ident sources s = record { is = λ b f. (s.is b f).1; there = s.there }
+-- the sources of the debug sections of each file are its sources, where memory suffices for them
+pub sources_each : {E : Type 0} (p : PictureFacts) (parts : Option DebugSections) (found : Result (List (List ℕ)) E)
+    → IsOfEach IsSomePart (λ b. IsDebugAnswer b parts) p → IfOk found (λ paths. (b : List ℕ) → IsDebugAnswer b parts → AreSourcesOf b paths)
+    → IfOk found (λ paths. IsOfEach IsSomePart (λ b. AreSourcesOf b paths) p)
+sources_each p parts (Ok paths) s are = record { is = λ b f. are b (s.is b f); there = s.there }
+sources_each p parts (Err e) s are = tt
 
 -- what is so of each file that agrees with the picture is so of each that has what was read
 pub of_reads : {Of : List ℕ → Range → Type 0} {size : ℕ} {reads : List Heard} {p : PictureFacts} {version : Versions}
@@ -64,7 +57,7 @@ of_reads whole seen each = record {
 }
 
 -- a range that is needed lies in the file
-inside : (which : FilePart) (b : List ℕ) (r : Range) → needs_of which b r → r.at + r.len ≤ length b
+pub inside : (which : FilePart) (b : List ℕ) (r : Range) → needs_of which b r → r.at + r.len ≤ length b
 inside part.Identity b r h = part-inside b r (inl h)
 inside part.Debug b r h = part-inside b r h
 inside (part.Section name) b r (inl h) = part-inside b r (inl h)

@@ -108,7 +108,7 @@ module _ {W F : Type 0} {name_of : F → NameFacts} {Of : List ℕ → Range →
       }
 
 -- what was found failed where its answer did
-answer_failed : {W F : Type 0} (found : FileSeen W F) (reads : List Heard) → seen_answer found reads ≡ file_failed
+pub answer_failed : {W F : Type 0} (found : FileSeen W F) (reads : List Heard) → seen_answer found reads ≡ file_failed
     → found ≡ seen.Failed
 answer_failed (seen.Read opened) reads is = absurd (cc)
 answer_failed (seen.TooLarge stamp) reads is = absurd (cc)

@@ -1,2 +1,3 @@
 pub mod AtPath
 pub mod Wholes
+pub mod Found

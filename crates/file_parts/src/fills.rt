@@ -5,11 +5,13 @@ ghost use Rattle.tree_trait.specs.Opened.{opened_name, unread_picture};
 ghost use Rattle.file_parts.specs.Wholes.{FillsWhole, needs_of};
 
 use crate::part::{FilePart, next_need};
-use row_types::Truth;
+use file_picture::known_with;
+use row_types::{READ_LIMIT, Truth};
 use std::alloc::Global;
 use tree_trait::{FillAnswer, Opened, Tree, fill};
 
-/// Reads of an open file, of which nothing was read yet, all that an answer rests on.
+/// Reads of an open file, of which nothing was read yet, all that an answer rests on; want of memory
+/// where that would be more than [`READ_LIMIT`] bytes.
 pub(crate) fn fill_whole<W: Truth, T: Tree<W>>(
     alloc: Global,
     hand: &mut T,
@@ -29,6 +31,9 @@ pub(crate) fn fill_whole<W: Truth, T: Tree<W>>(
             return FillAnswer::Done;
         };
         from = need.next;
+        if known_with(opened.picture(), need.at, need.len) > READ_LIMIT {
+            return FillAnswer::OutOfMemory;
+        }
         match fill(alloc, hand, opened, need.at, need.len) {
             FillAnswer::Done => {
                 // For its clause: no more bytes are known than the file has.

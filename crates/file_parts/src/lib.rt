@@ -4,10 +4,14 @@
 #![tactic(auto)]
 
 mod fills;
+mod found;
 mod known;
 mod part;
 mod seen;
 
-pub use known::{identity_known, section_known, sources_known};
+pub use found::find_at_path;
+pub use known::{
+    identity_found, identity_known, section_found, section_known, sources_found, sources_known,
+};
 pub use part::FilePart;
 pub use seen::{FileSeen, read_at_path};

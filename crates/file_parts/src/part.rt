@@ -5,6 +5,7 @@ ghost use Rattle.file_formats.specs.Parts.{IsSomePart, IsSomeSection};
 ghost use Rattle.file_formats.specs.Windows.{IsSomeWindow};
 ghost use Rattle.file_picture.specs.Passed.{HasPassed};
 ghost use Rattle.elf_classify.specs.DebugViews.{KnowsIdentity};
+ghost use Rattle.file_parts.specs.Found.{StepsTo};
 ghost use Rattle.file_parts.specs.Wholes.{IsThereWhole, NeedsRange, needs_of};
 
 use elf_classify::{IdentStep, PartsView, SectionStep, ident_from, parts_view, section_from};
@@ -30,6 +31,41 @@ pub(crate) struct PartNeed {
     pub len: u64,
     /// The index of the section from which to look on for a build-id, once they are there.
     pub next: u64,
+}
+
+/// What comes next of the reading of a file, its windows first.
+#[derive(Clone, Copy)]
+pub(crate) enum PartStep {
+    /// A window that isn't there.
+    Window(PartNeed),
+    /// Another range that isn't there, where all windows are.
+    Rest(PartNeed),
+    /// Nothing is left.
+    Whole,
+}
+
+/// What comes next of the reading of a file. No section before one is looked at for a build-id.
+pub(crate) fn next_step(picture: &Picture, part: FilePart<'_>, from: u64) -> PartStep
+    requires { HasPassed picture.now from }
+    ensures { StepsTo (needs_of part.entry) picture.now result }
+{
+    match ident_from(picture, from) {
+        IdentStep::Need { at, len, next } => PartStep::Window(PartNeed { at, len, next }),
+        IdentStep::Ident(_) => rest_step(picture, part, from),
+        IdentStep::Plain(_) => rest_step(picture, part, from),
+    }
+}
+
+/// The same, where all windows are there.
+fn rest_step(picture: &Picture, part: FilePart<'_>, from: u64) -> PartStep
+    requires windows { IsThereWhole IsSomeWindow picture.now }
+    requires passed { HasPassed picture.now from }
+    ensures { StepsTo (needs_of part.entry) picture.now result }
+{
+    match next_need(picture, part, from) {
+        Some(need) => PartStep::Rest(need),
+        None => PartStep::Whole,
+    }
 }
 
 /// A range that is needed and isn't there, if there is one. No section before one is looked at for a

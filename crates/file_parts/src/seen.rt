@@ -25,7 +25,8 @@ pub enum FileSeen<W: Truth, F: Drop> {
     OutOfMemory,
 }
 
-/// Opens the file at a path, up to 1 GiB, and reads of it what the answer rests on, and no more.
+/// Opens the file at a path, up to [`FILE_LIMIT`], and reads of it what the answer rests on, and no
+/// more; want of memory where that would be more than [`READ_LIMIT`](row_types::READ_LIMIT) bytes.
 pub fn read_at_path<W: Truth, T: Tree<W>>(
     alloc: Global,
     hand: &mut T,

@@ -1,14 +1,20 @@
 -- What is so of each file that agrees with the picture is so of each that has what was read.
-use Rattle.std.proofs.Common.{sym, subst}
-use Rattle.file_formats.specs.Windows.{IsSomeWindow}
+use Rattle.std.proofs.Common.{◌≤◌, sym, subst}
 use Rattle.file_picture.specs.Agrees.{AgreesWithPicture}
+use Rattle.file_picture.specs.Picture.{PictureFacts, sum_of}
+use Rattle.row_types.specs.declared.limits.TheConstants.{READ_LIMIT}
+use Rattle.file_parts.specs.Found.{Decides}
+use Rattle.file_parts.specs.declared.part.FilePart.TheVariants as part
 use Rattle.file_parts.specs.AtPath.{file_read, file_too_large, file_gone, file_failed, file_no_memory}
-use Rattle.file_parts.specs.Wholes.{IsThereWhole}
-use Rattle.file_parts.proofs.KnownLemmas.{of_reads}
+use Rattle.file_parts.proofs.FoundLemmas.{of_found}
 use Rattle.dbgd_commands.proofs.ident.run_ident.Goals as goal
 
-pub say_picture-requires : goal.say_picture-requires
-say_picture-requires g c = subst (IsThereWhole IsSomeWindow) (sym c.picture.ensures.value) c.in-Read.ensures.whole.there
+pub say_picture-requires-clause-decides : goal.say_picture-requires-clause-decides
+say_picture-requires-clause-decides g c = subst (Decides part.Identity) (sym c.picture.ensures.value) c.in-Read.ensures.decided.decides
+
+pub say_picture-requires-clause-small : goal.say_picture-requires-clause-small
+say_picture-requires-clause-small g c =
+    subst (λ (p : PictureFacts). sum_of p.pieces ≤ READ_LIMIT) (sym c.picture.ensures.value) c.in-Read.ensures.decided.small
 
 pub returns-in-Read : goal.returns-in-Read
 returns-in-Read g c =
@@ -18,8 +24,8 @@ returns-in-Read g c =
       asks = c.in-Read.ensures.asks;
       said = (
         said.0,
-        of_reads c.in-Read.ensures.whole c.picture.ensures.holds.seen
-            (λ b f. said.1.is b (subst (AgreesWithPicture b) (sym c.picture.ensures.value) f)),
+        of_found c.in-Read.ensures.decided c.picture.ensures.holds.seen
+            (λ b f. said.1 b (subst (AgreesWithPicture b) (sym c.picture.ensures.value) f)),
         said.2,
       );
     }

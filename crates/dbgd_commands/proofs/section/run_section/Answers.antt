@@ -1,45 +1,5 @@
--- What is so of each file that agrees with the picture is so of each that has what was read.
-use Rattle.std.proofs.Common.{sym, subst}
-use Rattle.file_formats.specs.Parts.{IsSomeSection}
-use Rattle.file_picture.specs.Agrees.{AgreesWithPicture}
-use Rattle.file_parts.specs.AtPath.{file_read, file_too_large, file_gone, file_failed, file_no_memory}
-use Rattle.file_parts.specs.Wholes.{IsThereWhole}
-use Rattle.file_parts.proofs.KnownLemmas.{of_reads}
+-- The name is that of the text.
 use Rattle.dbgd_commands.proofs.section.run_section.Goals as goal
 
-pub say_picture-requires : goal.say_picture-requires
-say_picture-requires g c =
-    subst (IsThereWhole (IsSomeSection c.args.name.now)) (sym c.picture.ensures.value) c.in-Read.ensures.whole.there
-
-pub returns-in-Read : goal.returns-in-Read
-returns-in-Read g c =
-    let said = c.say_picture.ensures in
-    record {
-      answer = file_read c.in-Read.opened.stamp c.in-Read.ensures.reads;
-      asks = c.in-Read.ensures.asks;
-      said = (
-        said.0,
-        said.1,
-        of_reads c.in-Read.ensures.whole c.picture.ensures.holds.seen
-            (λ b f. said.2.is b (subst (AgreesWithPicture b) (sym c.picture.ensures.value) f)),
-        of_reads c.in-Read.ensures.whole c.picture.ensures.holds.seen
-            (λ b f. said.3.is b (subst (AgreesWithPicture b) (sym c.picture.ensures.value) f)),
-        said.4,
-      );
-    }
-
-pub returns-in-TooLarge : goal.returns-in-TooLarge
-returns-in-TooLarge g c = record { answer = file_too_large; asks = c.in-TooLarge.ensures.asks; said = c.say_plain.ensures }
-
-pub returns-in-Gone : goal.returns-in-Gone
-returns-in-Gone g c = record { answer = file_gone; asks = c.in-Gone.ensures.asks; said = c.say_gone.ensures }
-
-pub returns-in-Failed : goal.returns-in-Failed
-returns-in-Failed g c = record { answer = file_failed; asks = c.in-Failed.ensures.asks; said = c.say_fault.ensures }
-
-pub returns-in-OutOfMemory : goal.returns-in-OutOfMemory
-returns-in-OutOfMemory g c = record {
-  answer = file_no_memory;
-  asks = c.in-OutOfMemory.ensures.asks;
-  said = c.say_no_memory.ensures;
-}
+pub returns : goal.returns
+returns g c = rw (← c.as_bytes.ensures.value) c.run_named.ensures

@@ -1,17 +1,24 @@
 -- What is so of each file that agrees with the picture is so of each that has what was read.
-use Rattle.std.proofs.Common.{sym, subst}
-use Rattle.file_formats.specs.Parts.{IsSomePart}
+use Rattle.std.proofs.Common.{◌≤◌, sym, subst}
 use Rattle.file_picture.specs.Agrees.{AgreesWithPicture}
-use Rattle.row_types.specs.Sources.{AreSourcesOf}
+use Rattle.row_types.specs.Reading.{ReadsBytes}
+use Rattle.row_types.specs.declared.reading.Reading.TheVariants.{Elf}
 use Rattle.tree_trait.specs.Needs.{IsOfReads}
+use Rattle.file_picture.specs.Picture.{PictureFacts, sum_of}
+use Rattle.row_types.specs.declared.limits.TheConstants.{READ_LIMIT}
+use Rattle.file_parts.specs.Found.{Decides, ReadsSourcesOfEach}
+use Rattle.file_parts.specs.declared.part.FilePart.TheVariants as part
 use Rattle.file_parts.specs.AtPath.{file_read, file_too_large, file_gone, file_failed, file_no_memory}
-use Rattle.file_parts.specs.Wholes.{AreSourcesOfEach, IsThereWhole}
-use Rattle.file_parts.proofs.KnownLemmas.{of_reads}
+use Rattle.file_parts.proofs.FoundLemmas.{of_found}
 use Rattle.dbgd_commands.proofs.FileLemmas.{listed_as}
 use Rattle.dbgd_commands.proofs.sources.run_sources.Goals as goal
 
-pub say_picture-requires : goal.say_picture-requires
-say_picture-requires g c = subst (IsThereWhole IsSomePart) (sym c.picture.ensures.value) c.in-Read.ensures.whole.there
+pub say_picture-requires-clause-decides : goal.say_picture-requires-clause-decides
+say_picture-requires-clause-decides g c = subst (Decides part.Debug) (sym c.picture.ensures.value) c.in-Read.ensures.decided.decides
+
+pub say_picture-requires-clause-small : goal.say_picture-requires-clause-small
+say_picture-requires-clause-small g c =
+    subst (λ (p : PictureFacts). sum_of p.pieces ≤ READ_LIMIT) (sym c.picture.ensures.value) c.in-Read.ensures.decided.small
 
 pub returns-in-Read : goal.returns-in-Read
 returns-in-Read g c =
@@ -21,12 +28,12 @@ returns-in-Read g c =
       asks = c.in-Read.ensures.asks;
       said = (
         said.0,
-        of_reads c.in-Read.ensures.whole c.picture.ensures.holds.seen
-            (λ b f. said.1.is b (subst (AgreesWithPicture b) (sym c.picture.ensures.value) f)),
-        listed_as (AreSourcesOfEach c.picture.result.now)
-            (λ paths. IsOfReads c.in-Read.opened.stamp.size c.in-Read.ensures.reads (λ b. AreSourcesOf b paths)) said.0 _ _ _
-            (λ paths are. of_reads c.in-Read.ensures.whole c.picture.ensures.holds.seen
-            (λ b f. are.is b (subst (AgreesWithPicture b) (sym c.picture.ensures.value) f))) said.2,
+        of_found c.in-Read.ensures.decided c.picture.ensures.holds.seen
+            (λ b f. said.1 b (subst (AgreesWithPicture b) (sym c.picture.ensures.value) f)),
+        listed_as (ReadsSourcesOfEach c.picture.result.now)
+            (λ i paths. IsOfReads c.in-Read.opened.stamp.size c.in-Read.ensures.reads (λ b. ReadsBytes b (Elf i paths))) said.0 _ _ _
+            (λ i paths are. of_found c.in-Read.ensures.decided c.picture.ensures.holds.seen
+            (λ b f. are b (subst (AgreesWithPicture b) (sym c.picture.ensures.value) f))) said.2,
       );
     }
 

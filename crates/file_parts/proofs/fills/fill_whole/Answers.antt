@@ -25,6 +25,14 @@ needs-init g c = (
 pub next_need-requires : goal.next_need-requires
 next_need-requires g c = subst (λ (p : PictureFacts). HasPassed p c.needs.from) (sym c.picture.ensures.value) c.needs.invariant.3
 
+pub known_with-requires : goal.known_with-requires
+known_with-requires g c =
+    let size = ap (λ (p : PictureFacts). p.size) c.picture-in-needs.ensures.value in
+    let asks = subst (λ (p : PictureFacts). AsksOf (needs_of c.args.part) p c.in-Some.need.at c.in-Some.need.len) c.picture.ensures.value c.in-Some.ensures.asks in
+    let fits = need_fits c.args.part c.picture.ensures.holds asks in
+    let sized = c.picture.ensures.holds.sized in
+    omega (arith, size, fits, sized)
+
 pub fill-requires-clause-inside : goal.fill-requires-clause-inside
 fill-requires-clause-inside g c = λ κs within.
     let asks = subst (λ (p : PictureFacts). AsksOf (needs_of c.args.part) p c.in-Some.need.at c.in-Some.need.len) c.picture.ensures.value c.in-Some.ensures.asks in
