@@ -6,6 +6,7 @@ use crate::lobby_limits::LobbyLimits;
 use crate::parked::{Lot, Parked, Why};
 use std::alloc::{AllocError, Global};
 use std::collections::VecDeque;
+use std::mem;
 use std::time::Instant;
 
 /// How many connections are asked for news before one is closed.
@@ -18,6 +19,8 @@ const CLOSED: u32 = 64;
 #[derive(Drop)]
 pub struct Hall {
     rows: Vec<Option<Parked>>,
+    /// Of which places the system told while a worker had the connection.
+    missed: Vec<bool>,
     free: Vec<usize>,
     /// The places of the connections that a worker is to take, in order.
     ready: VecDeque<usize>,
@@ -35,6 +38,7 @@ impl Hall {
     {
         Hall {
             rows: Vec::new(alloc),
+            missed: Vec::new(alloc),
             free: Vec::new(alloc),
             ready: VecDeque::new(alloc),
             conns: 0,
@@ -57,6 +61,7 @@ impl Hall {
             return Ok(place);
         }
         let place = self.rows.len();
+        self.missed.push(false)?;
         self.rows.push(None)?;
         self.free.reserve(self.rows.len())?;
         self.ready.reserve(self.rows.len())?;
@@ -71,13 +76,17 @@ impl Hall {
         let _ = self.free.push(place);
     }
 
-    /// Puts a connection at its place.
-    pub fn put(&mut self, place: usize, parked: Parked) {
+    /// Puts a connection at its place. Gives whether the system told of it while a worker had it.
+    pub fn put(&mut self, place: usize, parked: Parked) -> bool {
         let held = parked.begun.capacity() as u64;
         if let Some(row) = self.rows.get_mut(place) {
             *row = Some(parked);
             self.conns = self.conns.saturating_add(1);
             self.bytes = self.bytes.saturating_add(held);
+        }
+        match self.missed.get_mut(place) {
+            Some(is_missed) => mem::replace(is_missed, false),
+            None => false,
         }
     }
 
@@ -106,6 +115,17 @@ impl Hall {
             if !parked.is_told && self.ready.push_back(place).is_ok() {
                 parked.is_told = true;
             }
+        }
+    }
+
+    /// Has a worker take the connection at a place of which the system told, or notes that it did while
+    /// a worker has it.
+    pub fn hear(&mut self, place: usize, is_ended: bool) {
+        if let Some(Some(parked)) = self.rows.get_mut(place) {
+            parked.is_ended = parked.is_ended || is_ended;
+            self.tell(place);
+        } else if let Some(is_missed) = self.missed.get_mut(place) {
+            *is_missed = true;
         }
     }
 

@@ -3,7 +3,7 @@
 ghost use Rattle.dbgd_edges.specs.Numbers.{ArePinnedBatches};
 
 use crate::accept_fault::AcceptFault;
-use crate::lobby::Lobby;
+use crate::lobby::{LISTENER, Lobby};
 use mio::unix::SourceFd;
 use mio::{Events, Interest, Poll, Token};
 use std::alloc::Global;
@@ -20,9 +20,6 @@ pub const ACCEPTS: u32 = 64;
 
 /// Milliseconds until those that stand too long are looked for.
 pub const SWEEP_MILLIS: u64 = 250;
-
-/// The token of the listening socket.
-const LISTENER: usize = usize::MAX;
 
 /// The lead of a lobby. One worker at a time has it.
 #[derive(Drop)]
@@ -64,13 +61,8 @@ impl<L: Drop> Lead<L> {
 
     /// Has those taken that have bytes, and notes whether connections wait to be accepted.
     fn hand_out(&mut self, lobby: &Lobby) {
-        for event in self.events.iter() {
-            let Token(place) = event.token();
-            if place == LISTENER {
-                self.is_accepting = true;
-            } else {
-                lobby.tell(place);
-            }
+        if !self.events.is_empty() && lobby.hear(&self.events) {
+            self.is_accepting = true;
         }
     }
 

@@ -5,7 +5,7 @@ use crate::lobby_limits::LobbyLimits;
 use crate::parked::{Parked, Why, is_over};
 use crate::stream_call::make_waiting;
 use mio::unix::SourceFd;
-use mio::{Interest, Registry, Token};
+use mio::{Events, Interest, Registry, Token};
 use std::alloc::Global;
 use std::io::{self, ErrorKind, Read};
 use std::net::TcpStream;
@@ -17,6 +17,20 @@ use std::time::{Clock, Instant};
 
 /// How often the places are tried, which are never held for long.
 const HALL_TRIES: u32 = 1_000_000;
+
+/// The token of the listening socket.
+pub const LISTENER: usize = usize::MAX;
+
+/// Of which bytes of a connection the system is to tell.
+#[derive(Clone, Copy, PartialEq, Eq)]
+pub enum Watch {
+    /// Of those that are there and of those that come, from now on.
+    Begins,
+    /// The same, once more.
+    Anew,
+    /// Of those that come, as before.
+    GoesOn,
+}
 
 /// The connections that no worker holds, one for all doors of a run.
 #[derive(Drop)]
@@ -75,15 +89,17 @@ impl Lobby {
         None
     }
 
-    /// Has it told of bytes that come, and of those that are there.
-    fn watch(&self, fd: RawFd, place: usize, is_watched: bool) -> io::Result<()> {
+    /// Has the system tell of its bytes.
+    fn watch(&self, fd: RawFd, place: usize, watch: Watch) -> io::Result<()> {
         let mut source = SourceFd(&fd);
-        if is_watched {
-            self.registry
-                .reregister(&mut source, Token(place), Interest::READABLE)
-        } else {
-            self.registry
-                .register(&mut source, Token(place), Interest::READABLE)
+        match watch {
+            Watch::Begins => self
+                .registry
+                .register(&mut source, Token(place), Interest::READABLE),
+            Watch::Anew => self
+                .registry
+                .reregister(&mut source, Token(place), Interest::READABLE),
+            Watch::GoesOn => Ok(()),
         }
     }
 
@@ -94,17 +110,23 @@ impl Lobby {
     }
 
     /// Takes a connection in, for which another one is closed where there are too many. Where there is no
-    /// room for what came of its head, it is closed itself. The system is told while the places are held:
-    /// behind that another worker may have the connection, and its number be another's.
-    pub fn park(&self, parked: Parked, place: usize, is_watched: bool) {
+    /// room for what came of its head, it is closed itself. Where the system told of it while a worker had
+    /// it, that is to tell once more. It is asked while the places are held: behind that another worker may
+    /// have the connection, and its number be another's.
+    pub fn park(&self, parked: Parked, place: usize, watch: Watch) {
         let fd = parked.stream.as_raw_fd();
         let Some(mut hall) = self.hall() else {
             return;
         };
         let _ = hall.make_place(&self.limits);
         let has_room = hall.make_byte_room(&self.limits, parked.begun.capacity() as u64);
-        hall.put(place, parked);
-        if !has_room || self.watch(fd, place, is_watched).is_err() {
+        let is_missed = hall.put(place, parked);
+        let watch = if is_missed && watch == Watch::GoesOn {
+            Watch::Anew
+        } else {
+            watch
+        };
+        if !has_room || self.watch(fd, place, watch).is_err() {
             hall.close(place);
         }
         self.count(&hall);
@@ -129,7 +151,7 @@ impl Lobby {
         let now = Instant::now(clock)?;
         let place = self.place()?;
         let parked = Parked::new(stream, Vec::new(self.alloc), None, now, Why::Idle);
-        self.park(parked, place, false);
+        self.park(parked, place, Watch::Begins);
         Ok(())
     }
 
@@ -166,12 +188,23 @@ impl Lobby {
         }
     }
 
-    /// Has a worker take the connection at a place.
-    pub fn tell(&self, place: usize) {
-        if let Some(mut hall) = self.hall() {
-            hall.tell(place);
-            self.count(&hall);
+    /// Has workers take the connections of which the system tells. Gives whether it tells of the listening
+    /// socket.
+    pub fn hear(&self, events: &Events<Global>) -> bool {
+        let Some(mut hall) = self.hall() else {
+            return true;
+        };
+        let mut has_comers = false;
+        for event in events.iter() {
+            let Token(place) = event.token();
+            if place == LISTENER {
+                has_comers = true;
+            } else {
+                hall.hear(place, event.is_read_closed());
+            }
         }
+        self.count(&hall);
+        has_comers
     }
 
     /// Closes those that stand here too long, and has those taken whose heads are late.
@@ -184,6 +217,9 @@ impl Lobby {
 
     /// The next connection that a worker is to take, and its place.
     pub fn next(&self) -> Option<(Parked, usize)> {
+        if self.ready.load(Ordering::SeqCst) == 0 {
+            return None;
+        }
         let mut hall = self.hall()?;
         let next = hall.next();
         self.count(&hall);
@@ -204,6 +240,6 @@ impl Lobby {
     fn park_again(&self, parked: Parked, place: usize) {
         let mut parked = parked;
         parked.is_told = false;
-        self.park(parked, place, true);
+        self.park(parked, place, Watch::Anew);
     }
 }

@@ -101,6 +101,9 @@ impl<R: Clock + Copy + Drop, L: OpenListener<Stream = TcpStream> + Drop> LobbyDo
 
     /// Waits for a connection that is to be taken, for a moment.
     fn look<Rt: Wait>(&self, rt: &Rt) -> Result<Option<(Parked, usize)>, AcceptFault> {
+        if let Some(next) = self.lobby.next() {
+            return Ok(Some(next));
+        }
         let mut lead = self.lead.lock(rt);
         match self.lobby.next() {
             Some(next) => Ok(Some(next)),

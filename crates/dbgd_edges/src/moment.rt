@@ -22,7 +22,7 @@ pub enum Moment {
 }
 
 /// Reads once, and again where a signal came.
-fn read_moment<S: Read>(stream: &mut S, room: &mut [u8]) -> Moment
+pub fn read_moment<S: Read>(stream: &mut S, room: &mut [u8]) -> Moment
     ensures gives { GivesMoment room.new 0 result }
     ensures length { length room.new ≡ length room.old }
     ensures tries { ArePinnedSignals }

@@ -39,6 +39,8 @@ pub struct Parked {
     pub why: Why,
     /// Whether a worker is to take it.
     pub is_told: bool,
+    /// Whether the system told that its other side has ended.
+    pub is_ended: bool,
 }
 
 /// Whether a time that began then is over.
@@ -67,6 +69,7 @@ impl Parked {
             since: now,
             why,
             is_told: false,
+            is_ended: false,
         }
     }
 

@@ -7,8 +7,8 @@ ghost use Rattle.dbgd_edges.specs.Wires.{answer_with};
 ghost use Rattle.http_wire.specs.declared.limits.TheConstants.{HEAD_LIMIT};
 
 use crate::front::{Front, front_of};
-use crate::lobby::Lobby;
-use crate::moment::{Moment, put_in_front, read_behind};
+use crate::lobby::{Lobby, Watch};
+use crate::moment::{Moment, put_in_front, read_behind, read_moment};
 use crate::outbox::Outbox;
 use crate::parked::{Parked, Why};
 use http_wire::{HEAD_LIMIT, ReadAnswer, WriteAnswer};
@@ -49,6 +49,10 @@ pub struct Wire<R: Drop> {
     stay: Stay,
     /// Whether the system tells the lobby of bytes that come.
     is_watched: bool,
+    /// Whether bytes, or the end, may be there that it told of and that weren't read.
+    has_more: bool,
+    /// Whether it told that the other side has ended.
+    is_ended: bool,
 }
 
 impl<R: Drop> Wire<R> {
@@ -74,6 +78,8 @@ impl<R: Drop> Wire<R> {
                 Stay::Ready
             },
             is_watched: true,
+            has_more: true,
+            is_ended: parked.is_ended,
         }
     }
 }
@@ -107,10 +113,23 @@ impl<R: Clock + Drop> Wire<R> {
                 if self.lobby.is_wanted() {
                     self.be_idle()
                 } else {
-                    self.read_more(room)
+                    self.linger(room)
                 }
             }
         }
+    }
+
+    /// Waits a moment for the next bytes, of which the lobby isn't told meanwhile: that would wake another
+    /// worker.
+    fn linger(&mut self, room: &mut [u8]) -> ReadAnswer
+        requires some { 0 < length room.old }
+        requires most { length room.old ≤ HEAD_LIMIT }
+        ensures gives { GivesBytes room.new None None result }
+    {
+        if self.is_watched {
+            self.is_watched = self.lobby.unwatch(&self.stream).is_err();
+        }
+        self.read_more(room)
     }
 
     /// Ends a read since the connection is idle.
@@ -183,7 +202,9 @@ impl<R: Clock + Drop> Wire<R> {
         if known == room.len() {
             return self.give_over(known, Stay::Over);
         }
-        match read_behind(&mut self.stream, room, known) {
+        let moment = read_behind(&mut self.stream, room, known);
+        self.has_more = moment == Moment::Bytes(room.len() - known);
+        match moment {
             Moment::Bytes(n) => self.take_in(room, known, known + n),
             Moment::End => self.give_over(known, Stay::Ended),
             Moment::Nothing => self.be_idle(),
@@ -228,7 +249,6 @@ impl<R: Clock + Drop> Wire<R> {
         requires within { len ≤ length bytes.now }
         ensures gives { GivesBytes bytes.now None None result }
     {
-        let is_first = self.stay == Stay::Ready;
         self.begun.clear();
         self.first = None;
         if len < bytes.len() && !self.keeps(&bytes[len..]) {
@@ -239,9 +259,6 @@ impl<R: Clock + Drop> Wire<R> {
         } else {
             Stay::Behind
         };
-        if !is_first && self.is_watched {
-            self.is_watched = self.lobby.unwatch(&self.stream).is_err();
-        }
         ReadAnswer::Bytes(len)
     }
 
@@ -270,22 +287,44 @@ impl<R: Clock + Drop> Wire<R> {
 
     /// Whether the connection is to stand in the lobby: it is idle, or it is shut now and the other side
     /// hasn't ended.
-    fn is_kept(&self) -> bool {
+    fn is_kept(&mut self) -> bool {
         match self.stay {
             Stay::Idle => true,
             Stay::Ended => false,
-            _ => self.stream.shutdown(Shutdown::Write).is_ok(),
+            _ => self.stream.shutdown(Shutdown::Write).is_ok() && !self.is_left(),
+        }
+    }
+
+    /// Whether the other side ends within a moment, for which is waited where no worker is wanted elsewhere.
+    fn is_left(&mut self) -> bool {
+        if self.lobby.is_wanted() {
+            return false;
+        }
+        let moment = read_moment(&mut self.stream, &mut [0; 4096]);
+        moment == Moment::End || moment == Moment::Broken
+    }
+
+    /// Of which bytes the system is to tell now. A read that gave fewer than it had room for gave all that
+    /// were there, and the system tells by itself of those that come behind them.
+    fn watch(&self) -> Watch {
+        if !self.is_watched {
+            Watch::Begins
+        } else if self.stay != Stay::Idle || self.has_more || self.is_ended {
+            Watch::Anew
+        } else {
+            Watch::GoesOn
         }
     }
 
     /// Puts the connection into the lobby.
     fn park(self, now: Instant) {
+        let watch = self.watch();
         let (why, begun) = if self.stay == Stay::Idle {
             (Why::Idle, self.begun)
         } else {
             (Why::Shut, self.begun)
         };
         let parked = Parked::new(self.stream, begun, self.first, now, why);
-        self.lobby.park(parked, self.place, self.is_watched);
+        self.lobby.park(parked, self.place, watch);
     }
 }

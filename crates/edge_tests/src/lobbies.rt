@@ -2,7 +2,7 @@
 
 use crate::sockets::{bound_open, client_of, door_over, usual};
 use crate::stays::{HEAD, gets, has_end, send, stay};
-use http_wire::Door;
+use http_wire::{Door, DoorAnswer, ReadAnswer, Source};
 use std::net::{Net, Shutdown, TcpListener, TcpStream};
 use std::process::Abort;
 use std::sync::Wait;
@@ -98,6 +98,43 @@ fn a_head_may_come_byte_by_byte(rt: HostRuntime) {
         assert!(rt; stay(&rt, &mut door) == wanted, "byte {at}");
     }
     assert!(rt; gets(&mut client, b"pong"), "its reply");
+}
+
+/// How many heads a client sends, of which a read of 64 bytes takes three and a part.
+const MANY: u64 = 1000;
+
+/// How many heads the next stay at a door gives.
+fn heads_of<D: Door, Rt: Wait + Sync>(rt: &Rt, door: &mut D) -> u64 {
+    let DoorAnswer::Came(conn) = door.accept(rt) else {
+        return 0;
+    };
+    let mut conn = conn;
+    let mut count: u64 = 0;
+    for _ in 0..MANY {
+        if !matches!(conn.read(&mut [0; 64]), ReadAnswer::Bytes(18)) {
+            break;
+        }
+        count = count.saturating_add(1);
+    }
+    door.ended(conn);
+    count
+}
+
+#[test]
+fn heads_that_one_read_does_not_take_are_all_given(rt: HostRuntime) {
+    let (listener, port) = bound_open(&rt);
+    let mut door = door_over(&rt, &rt, listener, usual());
+    let mut client = client_of(&rt, port);
+    for _ in 0..MANY {
+        send(&rt, &mut client, HEAD);
+    }
+    let mut count: u64 = 0;
+    for _ in 0..MANY {
+        if count < MANY {
+            count = count.saturating_add(heads_of(&rt, &mut door));
+        }
+    }
+    assert!(rt; count == MANY, "{count} heads");
 }
 
 #[test]
