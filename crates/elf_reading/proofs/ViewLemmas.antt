@@ -1,5 +1,5 @@
 -- What is known of a file and what is asked for decide what it is found to be, and it is so of each file that agrees.
-use Rattle.std.proofs.Common.{◌≡◌, ◌⊎◌, inl, inr, ◌+◌, ◌≤◌, ◌<◌, ℕ, true, false, List, [], Option, Ok, Err, sym, subst, arith}
+use Rattle.std.proofs.Common.{◌≡◌, ◌⊎◌, inl, inr, ◌+◌, ◌≤◌, ◌<◌, ℕ, true, false, List, [], length, Option, Ok, Err, sym, subst, arith}
 use Rattle.file_formats.specs.Cover.{CoverMore, IsPlaceOf}
 use Rattle.file_formats.specs.DwarfSections.{IsDebugAnswer}
 use Rattle.file_formats.specs.DwarfUnits.{DebugSections}
@@ -8,6 +8,7 @@ use Rattle.file_formats.specs.Parts.{IsDebugRange, IsSomePart}
 use Rattle.file_formats.specs.Windows.{Range, range, IsSomeWindow}
 use Rattle.file_formats.specs.declared.fault.Why.{Why}
 use Rattle.file_formats.specs.declared.fault.Why.TheVariants.{TooLarge}
+use Rattle.file_formats.proofs.CoverLaws.{cover-within}
 use Rattle.file_formats.proofs.IdentityLemmas.{identity-unique}
 use Rattle.file_formats.proofs.PartLaws.{part-inside}
 use Rattle.file_picture.specs.Agrees.{AgreesWithPicture, AsksOf, IsOfEach, filled_with_zeros}
@@ -16,7 +17,7 @@ use Rattle.file_picture.specs.Picture.{PictureFacts, IsCovered, IsPicture}
 use Rattle.file_picture.specs.ReadSoFar.{HasWindows, IsNextRead, IsReadSoFar}
 use Rattle.file_picture.specs.declared.view.Need.{Need}
 use Rattle.file_picture.proofs.AgreeLaws.{filled-agrees}
-use Rattle.file_picture.proofs.CountLemmas.{count-less}
+use Rattle.file_picture.proofs.CountLemmas.{count-less, count-most}
 use Rattle.file_picture.proofs.ReadSoFarLaws.{asked-more, covers_less, covers_more, either-left, either-of, either-right, holds-parts, holds-windows, inside_in, there-less}
 use Rattle.row_types.specs.Name.{NameFacts}
 use Rattle.row_types.specs.Reading.{ReadsBytes, ReadsWithin, RestsOn, too_large, no_identity, with_sources, without_sources}
@@ -179,3 +180,12 @@ large_seen name p row e above = record {
   is = λ b f. subst (IsRowOf name b) (sym e) (large_is_read name b above);
   there = λ b f r h. absurd (not_both FILE_LIMIT name.stamp.size above h.small);
 }
+
+-- the parts of a file of no more than so many bytes cover no more
+pub small_covers : (limit : ℕ) (p : PictureFacts) → p.size ≤ limit → CoversMore limit p false
+small_covers limit p small = (
+  λ b f more.
+      let sized = f.sized in
+      cover-within (IsSomePart b) (length b) limit (part-inside b) (omega (arith, sized, small)) more,
+  λ at len asks. let most = count-most (is_known_or p at len) 0 p.size in omega (arith, most, small),
+)

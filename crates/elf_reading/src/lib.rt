@@ -10,7 +10,7 @@ mod view;
 
 pub use elf_reader::{ElfReader, large_row};
 pub use elf_truth::ElfTruth;
-pub use reading::{ReadingView, reading_seen, reading_within};
+pub use reading::{ReadingView, reading_within};
 pub use sources::{file_sources, sources_of};
 pub use tree_trait::ViewAnswer;
 pub use view::read_view;

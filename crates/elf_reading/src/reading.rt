@@ -55,7 +55,7 @@ pub enum ReadingView {
 /// What each file that agrees with a picture is found to be, as soon as what is known and what is
 /// asked for decide it; else a part that isn't there, and with which no more than [`READ_LIMIT`] bytes
 /// are known. No section before one is looked at for a build-id.
-pub fn reading_seen(alloc: Global, picture: &Picture, from: u64) -> ReadingView
+pub(crate) fn reading_seen(alloc: Global, picture: &Picture, from: u64) -> ReadingView
     requires passed { HasPassed picture.now from }
     requires read { IsReadSoFar READ_LIMIT picture.now }
     ensures { SaysReading READ_LIMIT picture.now result }
@@ -124,13 +124,15 @@ fn elf_seen(alloc: Global, picture: &Picture, ident: Ident, from: u64, limit: u6
 }
 
 /// Whether the parts of each file that agrees with a picture, whose windows are there, cover more
-/// than so many bytes together.
+/// than so many bytes together. A file that has no more bytes isn't looked into.
 fn covers_more(picture: &Picture, limit: u64) -> bool
     requires known { KnowsIdentity picture.now }
     requires read { IsReadSoFar limit picture.now }
     ensures { CoversMore limit picture.now result }
 {
-    // For its clause: the pieces of a picture neither overlap nor touch.
-    let _size = picture.size();
+    let size = picture.size();
+    if size <= limit {
+        return false;
+    }
     known_with_all(picture, &debug_places(picture)) > limit
 }

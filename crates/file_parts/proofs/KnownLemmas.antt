@@ -1,7 +1,5 @@
 -- What is known of a file by a picture in which all is there that an answer rests on.
 use Rattle.std.proofs.Common.{ℕ, ◌+◌, ◌≤◌, List, length, Option, Result, Ok, Err, IfOk, inl, inr, arith}
-use Rattle.file_formats.specs.DwarfSections.{IsDebugAnswer}
-use Rattle.file_formats.specs.DwarfUnits.{DebugSections}
 use Rattle.file_formats.specs.Parts.{IsSomePart}
 use Rattle.file_formats.specs.Windows.{IsSomeWindow, Range, range}
 use Rattle.file_formats.specs.declared.fault.Why.{Why}
@@ -11,7 +9,6 @@ use Rattle.file_picture.specs.Agrees.{AgreesWithPicture, AsksOf, IsOfEach, fille
 use Rattle.file_picture.specs.Picture.{IsPicture, PictureFacts}
 use Rattle.file_picture.proofs.AgreeLaws.{filled-agrees}
 use Rattle.row_types.specs.Name.{NameFacts}
-use Rattle.row_types.specs.Sources.{AreSourcesOf}
 use Rattle.row_types.specs.Stamp.{StampFacts}
 use Rattle.tree_trait.specs.Found.{Versions}
 use Rattle.tree_trait.specs.Heard.{Heard}
@@ -38,13 +35,6 @@ pub none_needed : {Of : List ℕ → Range → Type 0} {p : PictureFacts} {at le
 none_needed {p = p} {at} {len} is there asks =
     asks.gone (there (filled_with_zeros p) (filled-agrees p is) (range at len)
     (asks.among (filled_with_zeros p) (filled-agrees p is)))
-
--- the sources of the debug sections of each file are its sources, where memory suffices for them
-pub sources_each : {E : Type 0} (p : PictureFacts) (parts : Option DebugSections) (found : Result (List (List ℕ)) E)
-    → IsOfEach IsSomePart (λ b. IsDebugAnswer b parts) p → IfOk found (λ paths. (b : List ℕ) → IsDebugAnswer b parts → AreSourcesOf b paths)
-    → IfOk found (λ paths. IsOfEach IsSomePart (λ b. AreSourcesOf b paths) p)
-sources_each p parts (Ok paths) s are = record { is = λ b f. are b (s.is b f); there = s.there }
-sources_each p parts (Err e) s are = tt
 
 -- what is so of each file that agrees with the picture is so of each that has what was read
 pub of_reads : {Of : List ℕ → Range → Type 0} {size : ℕ} {reads : List Heard} {p : PictureFacts} {version : Versions}

@@ -9,7 +9,6 @@ use Rattle.file_picture.specs.Passed.{HasPassed}
 use Rattle.file_picture.specs.Picture.{IsCovered, PictureFacts}
 use Rattle.row_types.specs.Faults.{Rose}
 use Rattle.row_types.specs.Name.{NameFacts}
-use Rattle.row_types.specs.Sources.{AreSourcesOf}
 use Rattle.tree_trait.specs.Fills.{HasFailedLast, HasReads, HearsReads, IsReadOfFile}
 use Rattle.tree_trait.specs.Found.{Versions}
 use Rattle.tree_trait.specs.Heard.{Heard, call_failed}
@@ -36,11 +35,7 @@ pub record NeedsRange (Of : List ℕ → Range → Type 0) (p : PictureFacts) (n
   pub asks : AsksOf Of p need.at need.len
   pub passed : HasPassed p need.next
 
--- these are the source paths of each file that agrees with the picture, all of whose parts are there
-abbrev pub AreSourcesOfEach : PictureFacts → List (List ℕ) → Type 0
-AreSourcesOfEach p paths = IsOfEach IsSomePart (λ b. AreSourcesOf b paths) p
-
--- this is the section of the name of each such file, where its windows and that section are there
+-- this is the section of a name of each file that agrees with the picture, where its windows and that section are there
 abbrev pub IsSectionOfEach : List ℕ → PictureFacts → Option (List ℕ) → Type 0
 IsSectionOfEach name p found = IsOfEach (IsSomeSection name) (λ b. IsSectionAnswer b name found) p
 

@@ -8,10 +8,9 @@ ghost use Rattle.file_formats.specs.Parts.{IsSomePart, IsSomeSection};
 ghost use Rattle.file_picture.specs.Picture.{sum_of};
 ghost use Rattle.row_types.specs.declared.limits.TheConstants.{READ_LIMIT};
 ghost use Rattle.file_formats.specs.Windows.{IsSomeWindow};
-ghost use Rattle.elf_classify.specs.DebugViews.{KnowsIdentity};
 ghost use Rattle.elf_classify.specs.Views.{IsIdentityOfEach};
 ghost use Rattle.file_parts.specs.Found.{AreWide, HasIdentity, IsBare, ReadsIdentityOfEach, ReadsSourcesOfEach};
-ghost use Rattle.file_parts.specs.Wholes.{AreSourcesOfEach, IsSectionOfEach, IsThereWhole};
+ghost use Rattle.file_parts.specs.Wholes.{IsSectionOfEach, IsThereWhole};
 
 use elf_classify::{IdentView, PartsView, SectionView, ident_view, parts_view, section_view};
 use elf_reading::sources_of;
@@ -43,20 +42,6 @@ pub fn section_known<'a>(picture: &'a Picture, name: &[u8]) -> Option<&'a [u8]>
     match section_view(picture, name) {
         SectionView::Section(found) => found,
         SectionView::Need { .. } => unreachable!(),
-    }
-}
-
-/// The source paths of each file that agrees with a picture, which has an identity.
-pub fn sources_known(alloc: Global, picture: &Picture) -> Result<Sources, AllocError>
-    requires there { IsThereWhole IsSomePart picture.now }
-    requires known { KnowsIdentity picture.now }
-    ensures { IfOk result (AreSourcesOfEach picture.now) }
-{
-    // For its clause: the pieces of a picture neither overlap nor touch.
-    let _size = picture.size();
-    match parts_view(picture) {
-        PartsView::Parts(parts) => sources_of(alloc, parts),
-        PartsView::Need { .. } => unreachable!(),
     }
 }
 

@@ -10,8 +10,6 @@ mod part;
 mod seen;
 
 pub use found::find_at_path;
-pub use known::{
-    identity_found, identity_known, section_found, section_known, sources_found, sources_known,
-};
+pub use known::{identity_found, identity_known, section_found, section_known, sources_found};
 pub use part::FilePart;
 pub use seen::{FileSeen, read_at_path};

@@ -1,9 +1,9 @@
 //! The trait that stands for what reads a file.
 
-ghost use Rattle.std.specs.Prelude.{◌≡◌, IfOk};
+ghost use Rattle.std.specs.Prelude.{◌≡◌, ◌⊎◌, ◌≤◌, ◌<◌, IfOk};
 ghost use Rattle.file_picture.specs.Passed.{HasPassed};
 ghost use Rattle.file_picture.specs.ReadSoFar.{IsReadSoFar};
-ghost use Rattle.row_types.specs.declared.limits.TheConstants.{READ_LIMIT};
+ghost use Rattle.row_types.specs.declared.limits.TheConstants.{FILE_LIMIT, READ_LIMIT};
 ghost use Rattle.tree_trait.specs.Found.{found_name};
 ghost use Rattle.tree_trait.specs.Opened.{opened_name};
 ghost use Rattle.tree_trait.specs.Reader.{IsRowOf, SaysRow};
@@ -40,7 +40,8 @@ pub trait Reader<W: Truth>: Sync {
     /// [`READ_LIMIT`](row_types::READ_LIMIT) bytes the answer is want of memory.
     fn read(&self, alloc: Global, name: Name, found: &Found<W>) -> Result<TrueRow<W>, AllocError>
         requires { found_name found.now ≡ name }
-        ensures { IfOk result (IsRowOf name found.now.bytes) };
+        ensures row { IfOk result (IsRowOf name found.now.bytes) }
+        ensures small { IfOk result (λ _. name.stamp.size ≤ READ_LIMIT ⊎ FILE_LIMIT < name.stamp.size) };
 
     /// The row under the name of an open file, by the bytes that were read of it, once they decide it;
     /// else a part that isn't there, and with which no more than
