@@ -14,7 +14,7 @@ use Rattle.dbgd_commands.specs.CommandCauses.{FileStatus}
 use Rattle.dbgd_commands.specs.Endings.{EndsSaying, Saying, Streams}
 use Rattle.dbgd_commands.specs.File.{RunsFile, RunsOn}
 use Rattle.dbgd_commands.specs.Ident.{SaysFile, SaysIdent}
-use Rattle.dbgd_commands.specs.Scene.{FirstGoes, FirstRose, ProgramScene, Setting}
+use Rattle.dbgd_commands.specs.Stage.{CommandStage, FirstGoes, FirstRose, Setting}
 use Rattle.dbgd_commands.specs.Section.{SaysBytes, SaysNamed, SaysSection}
 use Rattle.dbgd_commands.specs.Sources.{SaysListed, SaysSources}
 use Rattle.dbgd_commands.specs.declared.status.Status.{Status}
@@ -27,7 +27,7 @@ pub by_ends : (P : Status → Type 0) (saying : Saying) {old new : Streams} {end
 by_ends P saying said out (inl whole) = subst P (sym whole.ends) said
 by_ends P saying said out (inr cut) = subst P (sym cut.ends) (out cut.out.rose)
 
-module _ {T : Type 0} (s : Setting T) (before after : ProgramScene T) where
+module _ {T : Type 0} (s : Setting T) (before after : CommandStage T) where
   -- what an opening or a read that failed says
   abbrev Failing : FileAnswer → Type 0
   Failing answer = answer ≡ file_failed → FirstRose s before.hands after.hands
@@ -91,7 +91,7 @@ by_answer s path Says Of (hand ∷ hands) (later ∷ left) goes by =
     by goes.0.answer (λ fails. goes.0.asks.hands.cause.rose fails) goes.0.said
 by_answer s path Says Of _ _ goes by = absurd goes
 
-module _ {T : Type 0} (s : Setting T) (before after : ProgramScene T) (end : Status) where
+module _ {T : Type 0} (s : Setting T) (before after : CommandStage T) (end : Status) where
   pub ident_status : (path : List ℕ) → RunsFile s path (SaysIdent path) IsSomeWindow before after end
       → FileStatus s before after end
   ident_status path run =

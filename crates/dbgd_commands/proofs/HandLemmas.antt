@@ -10,7 +10,7 @@ use Rattle.tree_trait.specs.Shown.{HandsOn, ShownTree}
 use Rattle.pass_runner.specs.Owned.{HandsGo}
 use Rattle.dbgd_commands.specs.Endings.{Streams}
 use Rattle.dbgd_commands.specs.File.{RunsFile, RunsOn}
-use Rattle.dbgd_commands.specs.Scene.{OfFirst, Setting, scene}
+use Rattle.dbgd_commands.specs.Stage.{OfFirst, Setting, command_stage}
 use Rattle.dbgd_commands.specs.declared.status.Status.{Status}
 
 -- hands that are as they were
@@ -27,7 +27,7 @@ pub runs_file : {T : Type 0} (s : Setting T) (path : List ℕ) (Says : FileAnswe
     (Of : List ℕ → Range → Type 0) (first later : T) (hands : List T) {store : ShownStore} {old new : Streams} {end : Status}
     → first ≡ slice_index_or hands 0 first → 0 < length hands
     → RunsOn Says Of s.tells_files s.world.version path (s.sees first) (s.sees later) old new end
-    → RunsFile s path Says Of (scene hands store old) (scene (slice_set hands 0 later) store new) end
+    → RunsFile s path Says Of (command_stage hands store old) (command_stage (slice_set hands 0 later) store new) end
 runs_file s path Says Of first later [] is some run = absurd (omega arith)
 runs_file {T} s path Says Of first later (hand ∷ hands) {old = old} {new = new} {end = end} is some run = record {
   hands = (

@@ -20,7 +20,7 @@ use Rattle.pass_runner.proofs.PassWalks.{helps_none}
 use Rattle.pass_runner.proofs.StillLemmas.{all_front}
 use Rattle.dbgd_commands.specs.Scan.{EndsScan, EndsScanEarly, EndsScanHelped, EndsInWalk, EndsPassed, EndsUnbegun, HelpsWith, LoadsBy, MakesPass, Scans}
 use Rattle.dbgd_commands.specs.ScanSaid.{is_first_hand_fault}
-use Rattle.dbgd_commands.specs.Scene.{Setting}
+use Rattle.dbgd_commands.specs.Stage.{Setting}
 use Rattle.dbgd_commands.specs.declared.scan_end.ScanEnd.{ScanEnd}
 use Rattle.dbgd_commands.specs.declared.scan_end.ScanEnd.TheVariants.{Refused, Passed}
 use Rattle.dbgd_commands.proofs.HandLemmas.{goes_length, stays_on}

@@ -35,7 +35,7 @@ use Rattle.pass_runner.specs.declared.pass_end.PassEnd.TheVariants as ended
 use Rattle.dbgd_commands.specs.Kept.{HasOneChange, HasRows, StoreHoldsRows, MakesChanges, MayHaveRows}
 use Rattle.dbgd_commands.specs.Passing.{HasMissedPath, IsLent, ScansIndex}
 use Rattle.dbgd_commands.specs.Scan.{EndsScanHelped, EndsInWalk, EndsPassed, EndsUnbegun, HelpsWith, MakesPass}
-use Rattle.dbgd_commands.specs.Scene.{FirstGoes, Setting}
+use Rattle.dbgd_commands.specs.Stage.{FirstGoes, Setting}
 use Rattle.dbgd_commands.proofs.HandLemmas.{others_stay}
 
 -- the values that a keeper gives are its tables

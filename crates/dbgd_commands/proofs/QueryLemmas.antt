@@ -16,7 +16,7 @@ use Rattle.index_state.specs.declared.open_fault.OpenFault.TheVariants as refusa
 use Rattle.dbgd_commands.specs.Opened.{EndsOnlyWith, HasSomeBad}
 use Rattle.dbgd_commands.specs.Query.{LooksInStore, OpensOnce, LooksBy, Queries, ReadsLines, RunsQuery, SaysFound, SaysLines, id_rows, is_look_fault, reading_word, row_line, row_lines}
 use Rattle.dbgd_commands.specs.QueryCauses.{IsQueryAnswered, IsFreeQuery, QueryEnds, QueryStatus}
-use Rattle.dbgd_commands.specs.Scene.{ProgramScene, Setting}
+use Rattle.dbgd_commands.specs.Stage.{CommandStage, Setting}
 use Rattle.dbgd_commands.specs.declared.query_end.QueryEnd.{QueryEnd}
 use Rattle.dbgd_commands.specs.declared.query_end.QueryEnd.TheVariants.{Refused, Read, OutOfMemory}
 use Rattle.dbgd_commands.specs.declared.scan_end.ScanEnd.TheVariants.{Refused as ScanRefused}
@@ -126,7 +126,7 @@ lines_none (row ∷ rows) e =
     let end = length-append (reading_word row.reading ++ codes " " ++ row.name.path) (10 ∷ []) in
     absurd (omega (arith, parts, end))
 
-module _ {T : Type 0} (s : Setting T) (path id : List ℕ) (before after : ProgramScene T) where
+module _ {T : Type 0} (s : Setting T) (path id : List ℕ) (before after : CommandStage T) where
   abbrev QueriesTo : QueryEnd → Type 0
   QueriesTo end = Queries s.tells_tables path id before.store after.store end
 

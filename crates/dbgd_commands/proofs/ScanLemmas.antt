@@ -32,7 +32,7 @@ use Rattle.dbgd_commands.specs.Endings.{Streams}
 use Rattle.dbgd_commands.specs.Kept.{StoreHoldsRows}
 use Rattle.dbgd_commands.specs.Scan.{EndsPassed, HelpsWith, MakesPass, RunsScan, Scans}
 use Rattle.dbgd_commands.specs.ScanSaid.{SaysEnd, SaysMiss, is_first_hand_fault, miss_saying, scan_saying}
-use Rattle.dbgd_commands.specs.Scene.{FirstRose, OfFirst, ProgramScene, Setting}
+use Rattle.dbgd_commands.specs.Stage.{CommandStage, FirstRose, OfFirst, Setting}
 use Rattle.dbgd_commands.specs.declared.scan_end.ScanEnd.{ScanEnd}
 use Rattle.dbgd_commands.specs.declared.scan_end.ScanEnd.TheVariants.{Refused, Passed}
 use Rattle.dbgd_commands.specs.declared.status.Status.{Status}
@@ -104,7 +104,7 @@ heard_other {walk = walk} {walked = walked} {more = more} Failed name cause.Appe
   still = never_changed Failed name cause.Appeared hears tt path tells.why tells.apart;
 }
 
-module _ {T : Type 0} (s : Setting T) (path : List ℕ) (roots : List (List ℕ)) (before after : ProgramScene T) where
+module _ {T : Type 0} (s : Setting T) (path : List ℕ) (roots : List (List ℕ)) (before after : CommandStage T) where
   abbrev ScansTo : ScanEnd → Type 0
   ScansTo end = Scans s path roots before.hands after.hands before.store after.store end
 

@@ -21,7 +21,7 @@ use Rattle.pass_runner.specs.declared.pass_end.PassEnd.TheVariants as ended
 use Rattle.dbgd_commands.specs.Kept.{AreFirstGiven, GivesValues, LacksFirst}
 use Rattle.dbgd_commands.specs.Scan.{EndsScan, LoadsBy, OpensBy, RefusesBy, RefusesValues, Scans}
 use Rattle.dbgd_commands.specs.ScanSaid.{is_first_hand_fault, is_store_fault}
-use Rattle.dbgd_commands.specs.Scene.{Setting}
+use Rattle.dbgd_commands.specs.Stage.{Setting}
 use Rattle.dbgd_commands.specs.declared.scan_end.ScanEnd.{ScanEnd}
 use Rattle.dbgd_commands.specs.declared.scan_end.ScanEnd.TheVariants.{Refused, Passed}
 use Rattle.dbgd_commands.proofs.HandLemmas.{hands_stay}

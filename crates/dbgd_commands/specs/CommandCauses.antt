@@ -24,7 +24,7 @@ use Rattle.pass_runner.specs.declared.pass_end.PassEnd.TheVariants as pass
 use Rattle.pass_runner.specs.declared.summary.Summary.{Summary}
 use Rattle.dbgd_commands.specs.Opened.{EndsOnlyWith, HasBad, HasSomeBad, StoreOpensOn}
 use Rattle.dbgd_commands.specs.Scan.{EndsPassed}
-use Rattle.dbgd_commands.specs.Scene.{FirstRose, OfFirst, ProgramScene, Setting}
+use Rattle.dbgd_commands.specs.Stage.{CommandStage, FirstRose, OfFirst, Setting}
 use Rattle.dbgd_commands.specs.Texts.{summary_line}
 use Rattle.dbgd_commands.specs.Trial.{AreForgedRows, trial_end_line}
 use Rattle.dbgd_commands.specs.declared.status.Status.{Status}
@@ -32,13 +32,13 @@ use Rattle.dbgd_commands.specs.declared.status.Status.TheVariants.{Done, Fault, 
 use Rattle.dbgd_commands.specs.declared.status.Status.TheVariants.{Limit, OutOfMemory, BadRow}
 
 -- the first hand's count of faults rose, or that of the standard output
-abbrev pub HandOrOutRose : {T : Type 0} → Setting T → ProgramScene T → ProgramScene T → Type 0
+abbrev pub HandOrOutRose : {T : Type 0} → Setting T → CommandStage T → CommandStage T → Type 0
 HandOrOutRose s before after =
     FirstRose s before.hands after.hands
     ⊎ Rose before.streams.out.write_faults after.streams.out.write_faults
 
 -- of a command on one file: no file is altered or meets a limit, and no value is no row
-abbrev pub FileStatus : {T : Type 0} → Setting T → ProgramScene T → ProgramScene T → Status → Type 0
+abbrev pub FileStatus : {T : Type 0} → Setting T → CommandStage T → CommandStage T → Status → Type 0
 FileStatus s before after Done = Unit {0}
 FileStatus s before after Fault = HandOrOutRose s before after
 FileStatus s before after Absent = Unit {0}
@@ -47,7 +47,7 @@ FileStatus s before after _ = ⊥
 
 -- the scan was whole, and the standard output got exactly its line
 pub record IsScanned {T : Type 0} (s : Setting T) (roots : List (List ℕ))
-    (before after : ProgramScene T) : Type 0 where
+    (before after : CommandStage T) : Type 0 where
   pub summary : Summary
   pub ends :
       EndsPassed s roots before.hands after.hands before.store after.store (pass.Whole summary)
@@ -104,7 +104,7 @@ pub record HeardMany (told : Bool) (roots : List (List ℕ)) (before after : Sho
 
 -- a limit was met: of what was heard, of the rows that the store held, or of the changes of the log
 pub data MeetsLimit {T : Type 0} (s : Setting T) (roots : List (List ℕ))
-    (before after : ProgramScene T) : Type 0 where
+    (before after : CommandStage T) : Type 0 where
   of_walk : OfFirst s (HeardMany s.tells_files roots) before.hands after.hands
       → MeetsLimit s roots before after
   of_rows : StoreOpensOn s.tells_tables before.store after.store IsOverfull
@@ -113,7 +113,7 @@ pub data MeetsLimit {T : Type 0} (s : Setting T) (roots : List (List ℕ))
       → MeetsLimit s roots before after
 
 -- of a scan: the words were read
-abbrev pub ScanStatus : {T : Type 0} → Setting T → List (List ℕ) → ProgramScene T → ProgramScene T → Status → Type 0
+abbrev pub ScanStatus : {T : Type 0} → Setting T → List (List ℕ) → CommandStage T → CommandStage T → Status → Type 0
 ScanStatus s roots before after Done = IsScanned s roots before after
 ScanStatus s roots before after Fault =
     Rose before.store.faults after.store.faults ⊎ HandOrOutRose s before after
@@ -127,13 +127,13 @@ ScanStatus s roots before after BadRow = StoreOpensOn s.tells_tables before.stor
 ScanStatus s roots before after _ = ⊥
 
 -- the standard output got the line of rows of exactly the generated files
-pub record HasTold {T : Type 0} (seed files : ℕ) (before after : ProgramScene T) : Type 0 where
+pub record HasTold {T : Type 0} (seed files : ℕ) (before after : CommandStage T) : Type 0 where
   pub rows : List RowFacts
   pub rows_are : AreForgedRows seed files rows
   pub line : GetsAll (trial_end_line files rows) before.streams.out after.streams.out
 
 -- of a trial: only the standard output can fail
-abbrev pub TrialStatus : {T : Type 0} → ℕ → ℕ → ProgramScene T → ProgramScene T → Status → Type 0
+abbrev pub TrialStatus : {T : Type 0} → ℕ → ℕ → CommandStage T → CommandStage T → Status → Type 0
 TrialStatus seed files before after Done = HasTold seed files before after
 TrialStatus seed files before after Fault =
     Rose before.streams.out.write_faults after.streams.out.write_faults
@@ -153,7 +153,7 @@ pub record IsFreeHand (told : Bool) (roots : List (List ℕ)) (before after : Sh
 -- many of them of the edition, the rows of the edition and the changes that the plan of the files under the folders allows
 -- against them are fewer than a log may have, and neither the store's count nor that of the standard output rose
 pub record IsUnhindered {T : Type 0} (s : Setting T) (roots : List (List ℕ))
-    (before after : ProgramScene T) : Type 0 where
+    (before after : CommandStage T) : Type 0 where
   pub hand : OfFirst s (IsFreeHand s.tells_files roots) before.hands after.hands
   pub tells : IsTrue s.tells_tables
   pub rows : List RowFacts
@@ -173,7 +173,7 @@ IsComplete _ = ⊥
 
 -- how a scan ends when: a store that tells a value which isn't a row ends it with the status for that, one that tells
 -- too many rows of the edition with that of a limit, and one that nothing stands against is done
-pub record ScanEnds {T : Type 0} (s : Setting T) (roots : List (List ℕ)) (before after : ProgramScene T)
+pub record ScanEnds {T : Type 0} (s : Setting T) (roots : List (List ℕ)) (before after : CommandStage T)
     (status : Status) : Type 0 where
   pub bad :
       IsTrue s.tells_tables → HasSomeBad before.store.tables

@@ -6,7 +6,7 @@ use Rattle.tree_trait.specs.Found.{Versions}
 use Rattle.tree_trait.specs.Shown.{ShownTree}
 use Rattle.file_parts.specs.AtPath.{AsksFile, FileAnswer}
 use Rattle.dbgd_commands.specs.Endings.{Streams}
-use Rattle.dbgd_commands.specs.Scene.{FirstGoes, ProgramScene, Setting}
+use Rattle.dbgd_commands.specs.Stage.{CommandStage, FirstGoes, Setting}
 use Rattle.dbgd_commands.specs.declared.status.Status.{Status}
 
 -- the file was opened and read, by these ranges alone, and what is said follows from that
@@ -19,7 +19,7 @@ pub record RunsOn (Says : FileAnswer → Streams → Streams → Status → Type
 
 -- the first hand was asked so, the other hands and the store are as they were
 pub record RunsFile {T : Type 0} (s : Setting T) (path : List ℕ)
-    (Says : FileAnswer → Streams → Streams → Status → Type 0) (Of : List ℕ → Range → Type 0) (before after : ProgramScene T)
+    (Says : FileAnswer → Streams → Streams → Status → Type 0) (Of : List ℕ → Range → Type 0) (before after : CommandStage T)
     (status : Status) : Type 0 where
   pub hands :
       FirstGoes (λ hand later.

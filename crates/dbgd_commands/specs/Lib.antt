@@ -9,7 +9,6 @@ pub mod Query
 pub mod QueryCauses
 pub mod Scan
 pub mod ScanSaid
-pub mod Scene
 pub mod Section
 pub mod Sources
 pub mod Stage

@@ -11,7 +11,7 @@ use Rattle.index_state.specs.State.{StateFacts}
 use Rattle.pass_runner.specs.Owned.{EndsPass, HandsGo, Helps, LoadsBeside, is_unwalked}
 use Rattle.pass_runner.specs.declared.pass_end.PassEnd.{PassEnd}
 use Rattle.pass_runner.specs.declared.pass_end.PassEnd.TheVariants.{Missed}
-use Rattle.dbgd_commands.specs.Scene.{Setting}
+use Rattle.dbgd_commands.specs.Stage.{Setting}
 
 -- the path of a name that was missed is one that is kept
 abbrev pub HasMissedPath : PassEnd → Type 0

@@ -13,7 +13,7 @@ use Rattle.dbgd_commands.specs.Endings.{out_saying}
 use Rattle.dbgd_commands.specs.Kept.{HasRows, StoreHoldsRows}
 use Rattle.dbgd_commands.specs.Scan.{OpensBy, RefusesBy}
 use Rattle.dbgd_commands.specs.ScanSaid.{is_open, is_store_fault, refusal_saying}
-use Rattle.dbgd_commands.specs.Scene.{ProgramScene, Setting}
+use Rattle.dbgd_commands.specs.Stage.{CommandStage, Setting}
 use Rattle.dbgd_commands.specs.Texts.{class_word, fed_line}
 use Rattle.dbgd_commands.specs.declared.query_end.QueryEnd.{QueryEnd}
 use Rattle.dbgd_commands.specs.declared.query_end.QueryEnd.TheVariants.{Refused, Read, OutOfMemory}
@@ -105,7 +105,7 @@ pub record AnswersQuery (told : Bool) (path id : List ℕ) (old new : ShownStore
   pub said : SaysFound end before after status
 
 -- so it is of the store and the two sinks; the hands are as they were
-pub record RunsQuery {T : Type 0} (s : Setting T) (path id : List ℕ) (before after : ProgramScene T)
+pub record RunsQuery {T : Type 0} (s : Setting T) (path id : List ℕ) (before after : CommandStage T)
     (status : Status) : Type 0 where
   pub answers :
       AnswersQuery s.tells_tables path id before.store after.store before.streams after.streams status

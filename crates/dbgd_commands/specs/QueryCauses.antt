@@ -8,26 +8,26 @@ use Rattle.index_state.specs.Opening.{AreRows, IsOverfull, current}
 use Rattle.dbgd_commands.specs.Kept.{StoreHoldsRows}
 use Rattle.dbgd_commands.specs.Opened.{EndsOnlyWith, HasBad, HasSomeBad, StoreOpensOn}
 use Rattle.dbgd_commands.specs.Query.{id_rows, row_lines}
-use Rattle.dbgd_commands.specs.Scene.{ProgramScene, Setting}
+use Rattle.dbgd_commands.specs.Stage.{CommandStage, Setting}
 use Rattle.dbgd_commands.specs.declared.status.Status.{Status}
 use Rattle.dbgd_commands.specs.declared.status.Status.TheVariants.{Absent, BadRow, Done, Fault, Limit}
 use Rattle.dbgd_commands.specs.declared.status.Status.TheVariants.{OutOfMemory}
 
 -- the store held some row of the edition with the id, and the standard output got the lines of these rows
-pub record FindsSome {T : Type 0} (s : Setting T) (id : List ℕ) (before after : ProgramScene T) : Type 0 where
+pub record FindsSome {T : Type 0} (s : Setting T) (id : List ℕ) (before after : CommandStage T) : Type 0 where
   pub found : List RowFacts
   pub held : StoreHoldsRows s.tells_tables before.store found
   pub some : id_rows id found ≢ []
   pub lines : GetsAll (row_lines (id_rows id found)) before.streams.out after.streams.out
 
 -- the store held no row of the edition with the id
-pub record FindsNoId {T : Type 0} (s : Setting T) (id : List ℕ) (before : ProgramScene T) : Type 0 where
+pub record FindsNoId {T : Type 0} (s : Setting T) (id : List ℕ) (before : CommandStage T) : Type 0 where
   pub found : List RowFacts
   pub held : StoreHoldsRows s.tells_tables before.store found
   pub none : id_rows id found ≡ []
 
 -- of a query: no file is altered, and it is built
-abbrev pub QueryStatus : {T : Type 0} → Setting T → List ℕ → ProgramScene T → ProgramScene T → Status → Type 0
+abbrev pub QueryStatus : {T : Type 0} → Setting T → List ℕ → CommandStage T → CommandStage T → Status → Type 0
 QueryStatus s id before after Done = FindsSome s id before after
 QueryStatus s id before after Fault =
     Rose before.store.faults after.store.faults
@@ -40,7 +40,7 @@ QueryStatus s id before after _ = ⊥
 
 -- nothing stands against a query: the store tells that each of its values is a row, not too many of them of the
 -- edition, and neither its count nor that of the standard output rose
-pub record IsFreeQuery {T : Type 0} (s : Setting T) (before after : ProgramScene T) : Type 0 where
+pub record IsFreeQuery {T : Type 0} (s : Setting T) (before after : CommandStage T) : Type 0 where
   pub tells : IsTrue s.tells_tables
   pub rows : List RowFacts
   pub held : AreRows rows before.store.tables
@@ -57,7 +57,7 @@ IsQueryAnswered _ = ⊥
 
 -- how a query ends when: a store that tells a value which isn't a row ends it with the status for that, one that tells
 -- too many rows of the edition with that of a limit, and one that nothing stands against is answered
-pub record QueryEnds {T : Type 0} (s : Setting T) (before after : ProgramScene T) (status : Status) : Type 0 where
+pub record QueryEnds {T : Type 0} (s : Setting T) (before after : CommandStage T) (status : Status) : Type 0 where
   pub bad :
       IsTrue s.tells_tables → HasSomeBad before.store.tables
       → EndsOnlyWith BadRow before.store after.store status

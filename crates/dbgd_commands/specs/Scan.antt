@@ -34,7 +34,7 @@ use Rattle.pass_runner.specs.declared.summary.Summary.{Summary}
 use Rattle.dbgd_commands.specs.Kept.{GivesValues, HasRows, StoreHoldsRows, KeepsStore, LacksFirst, MakesChanges}
 use Rattle.dbgd_commands.specs.Kept.{MayHaveRows}
 use Rattle.dbgd_commands.specs.ScanSaid.{SaysEnd, is_first_hand_fault, is_open, is_store_fault}
-use Rattle.dbgd_commands.specs.Scene.{FirstGoes, FirstRose, ProgramScene, Setting}
+use Rattle.dbgd_commands.specs.Stage.{CommandStage, FirstGoes, FirstRose, Setting}
 use Rattle.dbgd_commands.specs.declared.scan_end.ScanEnd.{ScanEnd}
 use Rattle.dbgd_commands.specs.declared.scan_end.ScanEnd.TheVariants.{Refused, Passed}
 use Rattle.dbgd_commands.specs.declared.status.Status.{Status}
@@ -226,7 +226,7 @@ pub record Scans {T : Type 0} (s : Setting T) (path : List ℕ) (roots : List (L
 -- the scan came to an end, and it was said. The hands behind those that it is made with, two and one for each worker, are
 -- as they were
 pub record RunsScan {T : Type 0} (s : Setting T) (path : List ℕ) (workers : ℕ) (roots : List (List ℕ))
-    (before after : ProgramScene T) (status : Status) : Type 0 where
+    (before after : CommandStage T) (status : Status) : Type 0 where
   pub end : ScanEnd
   pub scans : Scans s path roots before.hands after.hands before.store after.store end
   pub others : drop (workers + 2) after.hands ≡ drop (workers + 2) before.hands

@@ -17,7 +17,7 @@ use Rattle.elf_forge.specs.Place.{forged_names}
 use Rattle.pass_runner.specs.Numbers.{is_of}
 use Rattle.pass_runner.specs.declared.summary.Summary.{Summary}
 use Rattle.dbgd_commands.specs.Endings.{EndsSaying, Streams, SaysMemory, out_saying}
-use Rattle.dbgd_commands.specs.Scene.{ProgramScene}
+use Rattle.dbgd_commands.specs.Stage.{CommandStage}
 use Rattle.dbgd_commands.specs.Texts.{fed_line}
 use Rattle.dbgd_commands.specs.declared.status.Status.{Status}
 use Rattle.dbgd_commands.specs.declared.status.Status.TheVariants.{Done}
@@ -90,7 +90,7 @@ SaysTrial seed files old new status =
     SaysLine seed files old new status ⊎ SaysMemory old new status
 
 -- a trial: what it says. It has hands and a store of its own, and those that were handed in weren't looked at
-pub record RunsTrial {T : Type 0} (seed files : ℕ) (before after : ProgramScene T) (status : Status) : Type 0 where
+pub record RunsTrial {T : Type 0} (seed files : ℕ) (before after : CommandStage T) (status : Status) : Type 0 where
   pub says : SaysTrial seed files before.streams after.streams status
   pub hands : after.hands ≡ before.hands
   pub store : after.store ≡ before.store

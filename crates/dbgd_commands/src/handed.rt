@@ -3,8 +3,7 @@
 ghost use Rattle.std.specs.Prelude.{map};
 ghost use Rattle.row_types.specs.Rules.{rules};
 ghost use Rattle.dbgd_commands.specs.Endings.{streams};
-ghost use Rattle.dbgd_commands.specs.Scene.{Setting, scene, setting};
-ghost use Rattle.dbgd_commands.specs.Stage.{ProgramStage, rows_shown, stage};
+ghost use Rattle.dbgd_commands.specs.Stage.{ProgramStage, Setting, command_stage, rows_shown, setting, stage};
 
 use crate::kinds::Kinds;
 use elf_reading::ElfTruth;
@@ -77,6 +76,6 @@ impl<
     ghost setting = { setting (rules W.version W.true_row W.told) T.told T.shows S.K.told };
 
     ghost stage = { λ o. stage
-        (scene o.hands.items (S.shows o.store) (streams O.shows o.out o.err))
+        (command_stage o.hands.items (S.shows o.store) (streams O.shows o.out o.err))
         (map D.shows o.doors.items) (rows_shown L.shows o.links.items) (C.woke o.clock) };
 }

@@ -11,7 +11,7 @@ ghost use Rattle.dbgd_words.specs.Limits.{IsScanFit};
 ghost use Rattle.dbgd_commands.specs.Passing.{HasMissedPath, ScansIndex};
 ghost use Rattle.dbgd_commands.specs.Scan.{EndsScan, LoadsBy, RunsScan, Scans};
 ghost use Rattle.dbgd_commands.specs.ScanSaid.{is_first_hand_fault, is_store_fault};
-ghost use Rattle.dbgd_commands.specs.Scene.{setting};
+ghost use Rattle.dbgd_commands.specs.Stage.{setting};
 
 use crate::handed::{Handed, Staged};
 use crate::kinds::Kinds;
@@ -203,8 +203,8 @@ pub fn run_scan<X: Kinds, Rt: Threads + Wait + Sync>(
     requires hand { 0 < vec_len outside.old.hands }
     requires fits { IsScanFit workers }
     ensures runs { RunsScan ⟦<Handed<X> as Staged>⟧.setting path.now workers roots.now
-        (⟦<Handed<X> as Staged>⟧.stage outside.old).scene
-        (⟦<Handed<X> as Staged>⟧.stage outside.new).scene result }
+        (⟦<Handed<X> as Staged>⟧.stage outside.old).command
+        (⟦<Handed<X> as Staged>⟧.stage outside.new).command result }
     ensures count { vec_len outside.new.hands ≡ vec_len outside.old.hands }
     ensures rest { (outside.new.doors ≡ outside.old.doors) × (outside.new.links ≡ outside.old.links)
         × (outside.new.clock ≡ outside.old.clock) }

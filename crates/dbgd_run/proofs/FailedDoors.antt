@@ -18,8 +18,8 @@ use Rattle.dbgd_run.specs.Workers.{ServedBy, WorkerFacts}
 use Rattle.dbgd_run.proofs.RoundLemmas.{neither}
 
 -- a door that was served failed or closed, as it said last; it failed only where its count rose
-module _ {T : Type 0} (scene : ConnSetting T) (first last : List Change) where
-  rose_if : (before after : WorkerFacts T) → ServedBy scene first last before after → has_failed after.door.last ≡ true
+module _ {T : Type 0} (setting : ConnSetting T) (first last : List Change) where
+  rose_if : (before after : WorkerFacts T) → ServedBy setting first last before after → has_failed after.door.last ≡ true
       → Rose before.door.faults after.door.faults
   rose_if before after by failed = by_end by.ran.end by.ran.serves.ends.last by.ran.serves.ends.cause.rose
     where
@@ -28,7 +28,7 @@ module _ {T : Type 0} (scene : ConnSetting T) (first last : List Change) where
       by_end end.Failed is rose = rose refl
       by_end end.Closed is rose = absurd (false≢true (subst (λ (o : Option DoorSaid). has_failed o ≡ true) is failed))
 
-  closed_if : (before after : WorkerFacts T) → ServedBy scene first last before after → has_failed after.door.last ≡ false
+  closed_if : (before after : WorkerFacts T) → ServedBy setting first last before after → has_failed after.door.last ≡ false
       → after.door.last ≡ Some said.Closed
   closed_if before after by failed = by_end by.ran.end by.ran.serves.ends.last
     where
@@ -36,7 +36,7 @@ module _ {T : Type 0} (scene : ConnSetting T) (first last : List Change) where
       by_end end.Failed is = absurd (true≢false (subst (λ (o : Option DoorSaid). has_failed o ≡ false) is failed))
       by_end end.Closed is = is
 
-  pub some_rose : (workers left : List (WorkerFacts T)) → AllZip (ServedBy scene first last) workers left
+  pub some_rose : (workers left : List (WorkerFacts T)) → AllZip (ServedBy setting first last) workers left
       → is_any_failed (map (λ (worker : WorkerFacts T). worker.door) left) ≡ true
       → SomeDoorRose (map (λ (worker : WorkerFacts T). worker.door) workers) (map (λ (worker : WorkerFacts T). worker.door) left)
   some_rose [] [] all failed = absurd (false≢true failed)
@@ -55,7 +55,7 @@ module _ {T : Type 0} (scene : ConnSetting T) (first last : List Change) where
           inr (below
           (subst (λ (b : Bool). (b || is_any_failed (map (λ (worker : WorkerFacts T). worker.door) left)) ≡ true) is some))
 
-  pub all_closed : (workers left : List (WorkerFacts T)) → AllZip (ServedBy scene first last) workers left
+  pub all_closed : (workers left : List (WorkerFacts T)) → AllZip (ServedBy setting first last) workers left
       → is_any_failed (map (λ (worker : WorkerFacts T). worker.door) left) ≡ false
       → All (λ (door : ShownDoor). door.last ≡ Some said.Closed) (map (λ (worker : WorkerFacts T). worker.door) left)
   all_closed [] [] all none = All-nil (λ (door : ShownDoor). door.last ≡ Some said.Closed)

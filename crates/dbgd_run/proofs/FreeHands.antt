@@ -1,10 +1,10 @@
 -- The first hand over several passes: its count never falls, and what stands still stays so.
-use Rattle.std.proofs.Common.{◌≡◌, ℕ, zero, suc, ◌<◌, ◌≤◌, Bool, List, [], ◌∷◌, take, refl, sym, ◌∙◌, subst, arith}
+use Rattle.std.proofs.Common.{ℕ, zero, suc, ◌<◌, ◌≤◌, Bool, List, [], ◌∷◌, take, refl, sym, ◌∙◌, subst, arith}
 use Rattle.row_types.specs.Name.{NameFacts}
 use Rattle.tree_trait.specs.Shown.{ShownTree, StaysStill}
 use Rattle.tree_walk.specs.Files.{HasManyEntries, HasManyFiles}
 use Rattle.dbgd_commands.specs.CommandCauses.{HasRootGone, IsFreeHand}
-use Rattle.dbgd_commands.specs.Scene.{OfFirst, Setting}
+use Rattle.dbgd_commands.specs.Stage.{OfFirst, Setting}
 
 -- a hand later: its count never fell, and what stood still does
 pub record HandLater (before after : ShownTree) : Type 0 where

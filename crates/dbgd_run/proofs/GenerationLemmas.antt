@@ -49,9 +49,9 @@ unfound_at sight route (section_found from path n) is missed = absurd missed
 unfound_at sight route (source_found bytes path n) is missed = absurd missed
 unfound_at sight route no_memory_found is missed = absurd missed
 
-module _ {T : Type 0} (scene : ConnSetting T) (at : ConnStage T) (own noted : ShareFacts) (log : List Change) (request : Request) where
+module _ {T : Type 0} (setting : ConnSetting T) (at : ConnStage T) (own noted : ShareFacts) (log : List Change) (request : Request) where
   at_log : {what : given.Asked} {why : Reason} {n : ℕ} {carried : _} {answers : List Heard} {told : Option Upstream}
-      → IsCase scene at own noted log request what why n carried answers told → IsTrue (rests_on_index why) → n ≡ length log
+      → IsCase setting at own noted log request what why n carried answers told → IsTrue (rests_on_index why) → n ≡ length log
   at_log (bad_head len e) h = absurd (false≢true h)
   at_log (too_long e) h = absurd (false≢true h)
   at_log (too_many e) h = absurd (false≢true h)
@@ -59,9 +59,9 @@ module _ {T : Type 0} (scene : ConnSetting T) (at : ConnStage T) (own noted : Sh
   at_log (has_body head e served body) h = absurd (false≢true h)
   at_log (page head decided e taken is) h = absurd is
   at_log (no_route head fault e looked said) h = absurd (no_route_asks fault h)
-  at_log (passed head route answer heard e asks file rests is) h = passed_at (sight_at scene at log heard) route answer rests is
+  at_log (passed head route answer heard e asks file rests is) h = passed_at (sight_at setting at log heard) route answer rests is
   at_log (upstream head route answer heard given e asks file rests unfound) h =
-      unfound_at (sight_at scene at log heard) route answer rests unfound
+      unfound_at (sight_at setting at log heard) route answer rests unfound
   at_log (read_fault head route m heard said e asks file rests none) h = rests.1
   at_log (hop_limit head route m heard e asks file rests) h = rests.1
   at_log (upstream_fault head route m heard refused failed e asks file rests some) h = rests.1
@@ -71,6 +71,6 @@ module _ {T : Type 0} (scene : ConnSetting T) (at : ConnStage T) (own noted : Sh
   at_log (metrics head text e asks shown) h = absurd (false≢true h)
   at_log (no_page head e asks) h = absurd (false≢true h)
 
-pub generation_is : {T : Type 0} (scene : ConnSetting T) (last : Bool) (at : ConnStage T) (x : Exchange) → IsExchange scene last at x
+pub generation_is : {T : Type 0} (setting : ConnSetting T) (last : Bool) (at : ConnStage T) (x : Exchange) → IsExchange setting last at x
     → IsTrue (rests_on_index x.served.reason) → x.served.gen_ ≡ length x.log
-generation_is scene last at x is asked = at_log scene at x.own x.noted x.log x.request is.lawful.is asked
+generation_is setting last at x is asked = at_log setting at x.own x.noted x.log x.request is.lawful.is asked

@@ -2,8 +2,6 @@ pub mod FailedDoors
 pub mod FreeHands
 pub mod GainLemmas
 pub mod GenerationLemmas
-pub mod JoinedLemmas
-pub mod KeeperServed
 pub mod RoundLemmas
 pub mod RunLemmas
 pub mod ServeComplete

@@ -7,7 +7,6 @@ use Rattle.std.proofs.lemmas.List.Sums.{sum_by-cons}
 use Rattle.row_types.specs.Faults.{Rose}
 use Rattle.tree_trait.specs.Clock.{waited}
 use Rattle.tree_trait.specs.declared.clock.Wake.TheVariants.{Again, Stop}
-use Rattle.tree_trait.specs.declared.clock.Waited.{Waited}
 use Rattle.http_wire.specs.Sink.{GetsAll}
 use Rattle.http_wire.specs.Stream.{ShownStream}
 use Rattle.http_wire.specs.Told.{Gains}
@@ -15,12 +14,11 @@ use Rattle.http_wire.proofs.Pieces.{gets_both, gets_none}
 use Rattle.dbgd_metrics.specs.Shares.{ShareFacts}
 use Rattle.dbgd_metrics.specs.declared.number.Number.{Number}
 use Rattle.dbgd_commands.specs.Endings.{Gets, Streams}
-use Rattle.dbgd_commands.specs.Scene.{Setting}
+use Rattle.dbgd_commands.specs.Stage.{Setting}
 use Rattle.dbgd_run.specs.RoundSaid.{GrowsShare, added_by, err_told, is_cut, is_unmade}
-use Rattle.dbgd_run.specs.Rounds.{GetsLines, IsRound, KeepsPassing, PassingScene, Round, RoundsGo, StopsPassing}
-use Rattle.dbgd_run.specs.Rounds.{err_lines, is_any_cut, is_any_unmade, out_lines, stopped_by, waits_by}
+use Rattle.dbgd_run.specs.Rounds.{GetsLines, IsRound, KeepsPassing, PassStage, Round, RoundsGo, StopsPassing}
+use Rattle.dbgd_run.specs.Rounds.{err_lines, is_any_cut, is_any_unmade, out_lines, stopped_by}
 use Rattle.dbgd_run.specs.declared.line_fate.LineFate.TheVariants.{Written, Cut, Unmade}
-use Rattle.dbgd_run.specs.declared.passes_end.PassesEnd.{PassesEnd}
 use Rattle.dbgd_run.specs.declared.passes_end.PassesEnd.TheVariants.{Stopped, OutFailed, OutOfMemory}
 use Rattle.dbgd_run.proofs.GainLemmas.{gains_more, gains_none}
 use Rattle.dbgd_run.proofs.ShareLemmas.{counts_one, grows_as, grows_both, grows_none}
@@ -75,8 +73,8 @@ lines_both first rest old mid new one two =
     joined (inr rose) more = let late = two.later in inr (omega (arith, rose, late))
 
 -- the rounds so far: each line was made, and whether one was refused
-pub record KeepsOn {T : Type 0} (s : Setting T) (roots : List (List ℕ)) (secs : ℕ) (before : PassingScene T) (failed : Bool)
-    (now : PassingScene T) : Type 0 where
+pub record KeepsOn {T : Type 0} (s : Setting T) (roots : List (List ℕ)) (secs : ℕ) (before : PassStage T) (failed : Bool)
+    (now : PassStage T) : Type 0 where
   pub rounds : List (Round T)
   pub go : RoundsGo s roots secs before rounds now
   pub cut : is_any_cut rounds ≡ failed
@@ -97,26 +95,26 @@ memory_fail : OutOfMemory ≡ OutFailed → ⊥
 memory_fail e = cc
 
 module _ {T : Type 0} (s : Setting T) (roots : List (List ℕ)) (secs : ℕ) where
-  go_on : (before now : PassingScene T) (rounds : List (Round T)) (round : Round T) → RoundsGo s roots secs before rounds now
+  go_on : (before now : PassStage T) (rounds : List (Round T)) (round : Round T) → RoundsGo s roots secs before rounds now
       → IsRound s roots secs now round → RoundsGo s roots secs before (rounds ++ round ∷ []) round.after
-  go_on before now [] round same is = (subst (λ (scene : PassingScene T). IsRound s roots secs scene round) same is, refl)
+  go_on before now [] round same is = (subst (λ (at : PassStage T). IsRound s roots secs at round) same is, refl)
   go_on before now (first ∷ rounds) round go is = (go.0, go_on first.after now rounds round go.1 is)
 
   -- one wait a round
-  all_waits : (before after : PassingScene T) (rounds : List (Round T)) → RoundsGo s roots secs before rounds after
+  all_waits : (before after : PassStage T) (rounds : List (Round T)) → RoundsGo s roots secs before rounds after
       → Gains before.woke (map (λ _. waited secs Again) rounds) after.woke
   all_waits before after [] same =
-      subst (λ (scene : PassingScene T). Gains before.woke [] scene.woke) (sym same) (gains_none before.woke)
+      subst (λ (at : PassStage T). Gains before.woke [] at.woke) (sym same) (gains_none before.woke)
   all_waits before after (first ∷ rounds) go =
       gains_more before.woke first.after.woke after.woke (waited secs Again ∷ []) (map (λ _. waited secs Again) rounds) go.0.waits
       (all_waits first.after after rounds go.1)
 
   -- each line on the standard output, where none was refused or left out
-  all_out : (before after : PassingScene T) (rounds : List (Round T)) → RoundsGo s roots secs before rounds after
+  all_out : (before after : PassStage T) (rounds : List (Round T)) → RoundsGo s roots secs before rounds after
       → is_any_cut rounds ≡ false → is_any_unmade rounds ≡ false
       → GetsAll (out_lines rounds) before.streams.out after.streams.out
   all_out before after [] same cut unmade =
-      subst (λ (scene : PassingScene T). GetsAll [] before.streams.out scene.streams.out) (sym same)
+      subst (λ (at : PassStage T). GetsAll [] before.streams.out at.streams.out) (sym same)
       (gets_none before.streams.out)
   all_out before after (first ∷ rounds) go cut unmade =
       let whole = neither (is_cut first.fate) (is_any_cut rounds) cut in
@@ -125,11 +123,11 @@ module _ {T : Type 0} (s : Setting T) (roots : List (List ℕ)) (secs : ℕ) whe
       (all_out first.after after rounds go.1 whole.1 made.1)
 
   -- the count of the standard output never falls
-  pub later_out : (before after : PassingScene T) (rounds : List (Round T)) → RoundsGo s roots secs before rounds after
+  pub later_out : (before after : PassStage T) (rounds : List (Round T)) → RoundsGo s roots secs before rounds after
       → before.streams.out.write_faults ≤ after.streams.out.write_faults
   later_out before after [] same =
       let count : after.streams.out.write_faults ≡ before.streams.out.write_faults
-      = ap (λ (scene : PassingScene T). scene.streams.out.write_faults) same in
+      = ap (λ (at : PassStage T). at.streams.out.write_faults) same in
       omega (arith, count)
   later_out before after (first ∷ rounds) go =
       let one = out_later first.end before.streams first.after.streams first.fate go.0.tells in
@@ -137,7 +135,7 @@ module _ {T : Type 0} (s : Setting T) (roots : List (List ℕ)) (secs : ℕ) whe
       omega (arith, one, rest)
 
   -- it rose where a line was refused
-  rose_out : (before after : PassingScene T) (rounds : List (Round T)) → RoundsGo s roots secs before rounds after
+  rose_out : (before after : PassStage T) (rounds : List (Round T)) → RoundsGo s roots secs before rounds after
       → is_any_cut rounds ≡ true → Rose before.streams.out.write_faults after.streams.out.write_faults
   rose_out before after [] same cut = absurd (false≢true cut)
   rose_out before after (first ∷ rounds) go cut =
@@ -156,10 +154,10 @@ module _ {T : Type 0} (s : Setting T) (roots : List (List ℕ)) (secs : ℕ) whe
           omega (arith, one, rose)
 
   -- what the standard error got
-  all_err : (before after : PassingScene T) (rounds : List (Round T)) → RoundsGo s roots secs before rounds after
+  all_err : (before after : PassStage T) (rounds : List (Round T)) → RoundsGo s roots secs before rounds after
       → GetsLines (err_lines rounds) before.streams.err after.streams.err
   all_err before after [] same =
-      subst (λ (scene : PassingScene T). GetsLines [] before.streams.err scene.streams.err) (sym same)
+      subst (λ (at : PassStage T). GetsLines [] before.streams.err at.streams.err) (sym same)
       (lines_none before.streams.err)
   all_err before after (first ∷ rounds) go =
       lines_both (err_told first.end first.fate) (err_lines rounds) before.streams.err first.after.streams.err after.streams.err
@@ -168,10 +166,10 @@ module _ {T : Type 0} (s : Setting T) (roots : List (List ℕ)) (secs : ℕ) whe
       (all_err first.after after rounds go.1)
 
   -- what the share counted
-  all_counts : (before after : PassingScene T) (rounds : List (Round T)) → RoundsGo s roots secs before rounds after
+  all_counts : (before after : PassStage T) (rounds : List (Round T)) → RoundsGo s roots secs before rounds after
       → GrowsShare (λ number. sum_by (λ (round : Round T). added_by round.end number) rounds) before.share after.share
   all_counts before after [] same =
-      subst (λ (scene : PassingScene T). GrowsShare (λ _. 0) before.share scene.share) (sym same) (grows_none before.share)
+      subst (λ (at : PassStage T). GrowsShare (λ _. 0) before.share at.share) (sym same) (grows_none before.share)
   all_counts before after (first ∷ rounds) go =
       grows_as
       (λ (number : Number). added_by first.end number + sum_by (λ (round : Round T). added_by round.end number) rounds)
@@ -183,11 +181,11 @@ module _ {T : Type 0} (s : Setting T) (roots : List (List ℕ)) (secs : ℕ) whe
       (all_counts first.after after rounds go.1))
 
   -- no round yet
-  pub keeps_none : (before : PassingScene T) → KeepsOn s roots secs before false before
+  pub keeps_none : (before : PassStage T) → KeepsOn s roots secs before false before
   keeps_none before = record { rounds = []; go = refl; cut = refl; made = refl }
 
   -- a round whose line was said
-  pub keeps_written : (before now : PassingScene T) (failed : Bool) (round : Round T) → KeepsOn s roots secs before failed now
+  pub keeps_written : (before now : PassStage T) (failed : Bool) (round : Round T) → KeepsOn s roots secs before failed now
       → IsRound s roots secs now round → round.fate ≡ Written → KeepsOn s roots secs before failed round.after
   keeps_written before now failed round keeps is written = record {
     rounds = keeps.rounds ++ round ∷ [];
@@ -200,7 +198,7 @@ module _ {T : Type 0} (s : Setting T) (roots : List (List ℕ)) (secs : ℕ) whe
   }
 
   -- a round whose line was refused
-  pub keeps_cut : (before now : PassingScene T) (failed : Bool) (round : Round T) → KeepsOn s roots secs before failed now
+  pub keeps_cut : (before now : PassStage T) (failed : Bool) (round : Round T) → KeepsOn s roots secs before failed now
       → IsRound s roots secs now round → round.fate ≡ Cut → KeepsOn s roots secs before true round.after
   keeps_cut before now failed round keeps is cut = record {
     rounds = keeps.rounds ++ round ∷ [];
@@ -212,11 +210,11 @@ module _ {T : Type 0} (s : Setting T) (roots : List (List ℕ)) (secs : ℕ) whe
   }
 
   -- the clock said Stop
-  pub keeps_stopped : (before now after : PassingScene T) (failed : Bool) → KeepsOn s roots secs before failed now
+  pub keeps_stopped : (before now after : PassStage T) (failed : Bool) → KeepsOn s roots secs before failed now
       → StopsPassing secs now after → KeepsPassing s roots secs before (stopped_by failed) after
   keeps_stopped before now after false keeps stops =
-      let streams : after.streams ≡ now.streams = ap (λ (scene : PassingScene T). scene.streams) stops.rest in
-      let share : after.share ≡ now.share = ap (λ (scene : PassingScene T). scene.share) stops.rest in
+      let streams : after.streams ≡ now.streams = ap (λ (at : PassStage T). at.streams) stops.rest in
+      let share : after.share ≡ now.share = ap (λ (at : PassStage T). at.share) stops.rest in
       record {
         rounds = keeps.rounds;
         last = now;
@@ -238,8 +236,8 @@ module _ {T : Type 0} (s : Setting T) (roots : List (List ℕ)) (secs : ℕ) whe
             (all_counts before now keeps.rounds keeps.go);
       }
   keeps_stopped before now after true keeps stops =
-      let streams : after.streams ≡ now.streams = ap (λ (scene : PassingScene T). scene.streams) stops.rest in
-      let share : after.share ≡ now.share = ap (λ (scene : PassingScene T). scene.share) stops.rest in
+      let streams : after.streams ≡ now.streams = ap (λ (at : PassStage T). at.streams) stops.rest in
+      let share : after.share ≡ now.share = ap (λ (at : PassStage T). at.share) stops.rest in
       record {
         rounds = keeps.rounds;
         last = now;
@@ -262,7 +260,7 @@ module _ {T : Type 0} (s : Setting T) (roots : List (List ℕ)) (secs : ℕ) whe
       }
 
   -- a line could not be made
-  pub keeps_unmade : (before now : PassingScene T) (failed : Bool) (round : Round T) → KeepsOn s roots secs before failed now
+  pub keeps_unmade : (before now : PassStage T) (failed : Bool) (round : Round T) → KeepsOn s roots secs before failed now
       → IsRound s roots secs now round → round.fate ≡ Unmade → KeepsPassing s roots secs before OutOfMemory round.after
   keeps_unmade before now failed round keeps is unmade =
       let go = go_on before now keeps.rounds round keeps.go is in

@@ -1,6 +1,6 @@
 -- Where nothing stands against it each pass of a server writes its line.
-use Rattle.std.proofs.Common.{◌≡◌, inl, inr, ℕ, zero, suc, ◌+◌, ◌<◌, ◌≤◌, Bool, true, false, List, [], ◌∷◌, ◌++◌, All, take, Option, Some, None, length, length-append, refl, sym, ◌∙◌, ap, subst, arith, IsTrue}
-use Rattle.std.proofs.lemmas.Bool.{false≢true, true≢false}
+use Rattle.std.proofs.Common.{◌≡◌, inl, inr, ℕ, ◌+◌, ◌<◌, Bool, true, false, List, [], ◌∷◌, ◌++◌, All, take, Option, Some, None, length, length-append, refl, sym, ◌∙◌, ap, subst, arith, IsTrue}
+use Rattle.std.proofs.lemmas.Bool.{false≢true}
 use Rattle.std.proofs.lemmas.List.Elements.{All-nil, All-cons}
 use mathlib.Core.List.{IsPrefix}
 use Rattle.row_types.specs.Faults.{Rose}
@@ -9,7 +9,7 @@ use Rattle.tree_trait.specs.Shown.{HandsOn}
 use Rattle.tree_walk.specs.declared.fault.WalkFault.TheVariants as stop
 use Rattle.http_wire.specs.Stream.{ShownStream}
 use Rattle.index_keeper.specs.Tables.{KeptFacts}
-use Rattle.index_lock.proofs.Prefixes.{prefix_of_same, prefix_self, prefix_trans}
+use Rattle.index_lock.proofs.Prefixes.{prefix_of_same, prefix_trans}
 use Rattle.index_rows.specs.Log.{after_change}
 use Rattle.index_rows.specs.declared.change.Change.{Change}
 use Rattle.index_rows.specs.declared.rows.TheConstants.{LOG_LIMIT}
@@ -21,20 +21,19 @@ use Rattle.index_state.specs.declared.open_fault.OpenFault.TheVariants as refusa
 use Rattle.pass_runner.specs.SharedPass.{IsDoneShared, IsUnhinderedPass}
 use Rattle.pass_runner.specs.declared.pass_end.PassEnd.{PassEnd}
 use Rattle.pass_runner.specs.declared.pass_end.PassEnd.TheVariants as pass
-use Rattle.pass_runner.specs.Owned.{HandsGo, is_hand_fault}
+use Rattle.pass_runner.specs.Owned.{is_hand_fault}
 use Rattle.dbgd_commands.specs.CommandCauses.{IsFreeHand}
 use Rattle.dbgd_commands.specs.Endings.{Streams}
-use Rattle.dbgd_commands.specs.Scene.{OfFirst, Setting}
+use Rattle.dbgd_commands.specs.Stage.{OfFirst, ProgramStage, Setting}
 use Rattle.dbgd_commands.specs.declared.status.Status.{Status}
 use Rattle.dbgd_commands.specs.declared.status.Status.TheVariants as status
 use Rattle.dbgd_commands.proofs.HandLemmas.{by_first, of_first}
 use Rattle.dbgd_commands.proofs.RowLemmas.{first_held, none_bad, none_overfull}
 use Rattle.dbgd_run.specs.RoundSaid.{TellsPass, is_cut}
-use Rattle.dbgd_run.specs.Rounds.{EndsPassing, KeepsPassing, PassesShared, PassingScene, Round, RoundsGo}
-use Rattle.dbgd_run.specs.Serve.{IsServed, IsUnopened, PassesOn, RunsServe, SaysUnserved, ServeWords, served, unopened, unserved}
+use Rattle.dbgd_run.specs.Rounds.{EndsPassing, PassesShared, PassStage, Round, RoundsGo}
+use Rattle.dbgd_run.specs.Serve.{HasServed, IsUnopened, PassesOn, RunsServe, SaysUnserved, ServeWords, served, unopened, unserved}
 use Rattle.dbgd_run.specs.ServeCauses.{rounds_behind}
 use Rattle.dbgd_run.specs.ServeComplete.{CompletesServe, IsFreeServe, WritesPassLine}
-use Rattle.dbgd_commands.specs.Stage.{ProgramStage}
 use Rattle.dbgd_run.specs.declared.line_fate.LineFate.{LineFate}
 use Rattle.dbgd_run.specs.declared.line_fate.LineFate.TheVariants.{Written, Cut, Unmade}
 use Rattle.dbgd_run.specs.declared.passes_end.PassesEnd.{PassesEnd}
@@ -87,7 +86,7 @@ line_done log pass.KeeperFault fate old new done sound told never = absurd (soun
 line_done log pass.LogFull fate old new done sound told never = absurd (sound done)
 
 module _ {T : Type 0} (s : Setting T) (roots : List (List ℕ)) where
-  round_later : (before after : PassingScene T) (end : PassEnd) → PassesShared s roots end before after
+  round_later : (before after : PassStage T) (end : PassEnd) → PassesShared s roots end before after
       → OfFirst s HandLater before.hands after.hands
   round_later before after end passes =
       of_first s
@@ -95,7 +94,7 @@ module _ {T : Type 0} (s : Setting T) (roots : List (List ℕ)) where
       (λ hand left. HandsOn s.tells_files s.world.version (s.sees hand) (s.sees left) ⊥ ⊥)
       HandLater before.hands after.hands (λ hand left on. record { later = on.cause.later; still = on.still }) passes.goes
 
-  pass_done : (log : List Change) (before after : PassingScene T) (end : PassEnd) (fate : LineFate)
+  pass_done : (log : List Change) (before after : PassStage T) (end : PassEnd) (fate : LineFate)
       → PassesShared s roots end before after → TellsPass end before.streams after.streams fate
       → OfFirst s (IsFreeHand s.tells_files roots) before.hands after.hands → IsPrefix after.log log → length log < LOG_LIMIT
       → EachChanges [] log → (Rose before.streams.out.write_faults after.streams.out.write_faults → ⊥) → WritesPassLine end fate
@@ -119,21 +118,21 @@ module _ {T : Type 0} (s : Setting T) (roots : List (List ℕ)) where
   -- Rounds
 
   module _ (secs : ℕ) where
-    rounds_later : (start : List T) (before last : PassingScene T) (rounds : List (Round T)) → OfFirst s HandLater start before.hands
+    rounds_later : (start : List T) (before last : PassStage T) (rounds : List (Round T)) → OfFirst s HandLater start before.hands
         → RoundsGo s roots secs before rounds last → OfFirst s HandLater before.hands last.hands
     rounds_later start before last [] there same =
-        subst (λ (scene : PassingScene T). OfFirst s HandLater before.hands scene.hands) (sym same) (same_later s start before.hands there)
+        subst (λ (at : PassStage T). OfFirst s HandLater before.hands at.hands) (sym same) (same_later s start before.hands there)
     rounds_later start before last (round ∷ rounds) there go =
         let one = round_later before round.after round.end go.0.passes in
         hands_both s before.hands round.after.hands last.hands one (rounds_later before.hands round.after last rounds one go.1)
 
-    rounds_log : (before last : PassingScene T) (rounds : List (Round T)) → RoundsGo s roots secs before rounds last
+    rounds_log : (before last : PassStage T) (rounds : List (Round T)) → RoundsGo s roots secs before rounds last
         → IsPrefix before.log last.log
-    rounds_log before last [] same = prefix_of_same before.log last.log (sym (ap (λ (scene : PassingScene T). scene.log) same))
+    rounds_log before last [] same = prefix_of_same before.log last.log (sym (ap (λ (at : PassStage T). at.log) same))
     rounds_log before last (round ∷ rounds) go =
         prefix_trans before.log round.after.log last.log go.0.passes.later (rounds_log round.after last rounds go.1)
 
-    rounds_done : (log : List Change) (before last : PassingScene T) (rounds : List (Round T)) → RoundsGo s roots secs before rounds last
+    rounds_done : (log : List Change) (before last : PassStage T) (rounds : List (Round T)) → RoundsGo s roots secs before rounds last
         → OfFirst s (IsFreeHand s.tells_files roots) before.hands last.hands → IsPrefix last.log log → length log < LOG_LIMIT
         → EachChanges [] log → (Rose before.streams.out.write_faults last.streams.out.write_faults → ⊥)
         → All (λ (round : Round T). WritesPassLine round.end round.fate) rounds
@@ -150,45 +149,45 @@ module _ {T : Type 0} (s : Setting T) (roots : List (List ℕ)) where
         (λ rose. out (omega (arith, rose, high))))
         (rounds_done log round.after last rounds go.1 parts.1 into room each (λ rose. out (omega (arith, rose, low))))
 
-    -- the passing ends in the scene of its last round, but for the waits
-    record EndsAt (mid after : PassingScene T) : Type 0 where
+    -- the passing ends in the stage of its last round, but for the waits
+    record EndsAt (mid after : PassStage T) : Type 0 where
       pub log : after.log ≡ mid.log
       pub hands : after.hands ≡ mid.hands
       pub streams : after.streams ≡ mid.streams
 
-    ends_at_last : (rounds : List (Round T)) (mid after : PassingScene T) (how : PassesEnd) → EndsPassing secs rounds mid how after
+    ends_at_last : (rounds : List (Round T)) (mid after : PassStage T) (how : PassesEnd) → EndsPassing secs rounds mid how after
         → EndsAt mid after
     ends_at_last rounds mid after Stopped ends = record {
-      log = ap (λ (scene : PassingScene T). scene.log) ends.2.rest;
-      hands = ap (λ (scene : PassingScene T). scene.hands) ends.2.rest;
-      streams = ap (λ (scene : PassingScene T). scene.streams) ends.2.rest;
+      log = ap (λ (at : PassStage T). at.log) ends.2.rest;
+      hands = ap (λ (at : PassStage T). at.hands) ends.2.rest;
+      streams = ap (λ (at : PassStage T). at.streams) ends.2.rest;
     }
     ends_at_last rounds mid after OutFailed ends = record {
-      log = ap (λ (scene : PassingScene T). scene.log) ends.2.rest;
-      hands = ap (λ (scene : PassingScene T). scene.hands) ends.2.rest;
-      streams = ap (λ (scene : PassingScene T). scene.streams) ends.2.rest;
+      log = ap (λ (at : PassStage T). at.log) ends.2.rest;
+      hands = ap (λ (at : PassStage T). at.hands) ends.2.rest;
+      streams = ap (λ (at : PassStage T). at.streams) ends.2.rest;
     }
     ends_at_last rounds mid after OutOfMemory ends = record {
-      log = ap (λ (scene : PassingScene T). scene.log) ends.1;
-      hands = ap (λ (scene : PassingScene T). scene.hands) ends.1;
-      streams = ap (λ (scene : PassingScene T). scene.streams) ends.1;
+      log = ap (λ (at : PassStage T). at.log) ends.1;
+      hands = ap (λ (at : PassStage T). at.hands) ends.1;
+      streams = ap (λ (at : PassStage T). at.streams) ends.1;
     }
 
-    -- the passes behind the first one, up to the last scene
-    record Behind (first : Round T) (rounds : List (Round T)) (last : PassingScene T) : Type 0 where
-      pub mid : PassingScene T
+    -- the passes behind the first one, up to the last stage
+    record Behind (first : Round T) (rounds : List (Round T)) (last : PassStage T) : Type 0 where
+      pub mid : PassStage T
       pub go : RoundsGo s roots secs first.after rounds mid
       pub ends : EndsAt mid last
 
-    behind : (first : Round T) (how : Option PassesEnd) (last : PassingScene T) (passes : PassesOn s roots secs first how last)
+    behind : (first : Round T) (how : Option PassesEnd) (last : PassStage T) (passes : PassesOn s roots secs first how last)
         → Behind first (rounds_behind s roots secs first how last passes) last
     behind first None last none = record {
       mid = first.after;
       go = refl;
       ends = record {
-        log = ap (λ (scene : PassingScene T). scene.log) none.1;
-        hands = ap (λ (scene : PassingScene T). scene.hands) none.1;
-        streams = ap (λ (scene : PassingScene T). scene.streams) none.1;
+        log = ap (λ (at : PassStage T). at.log) none.1;
+        hands = ap (λ (at : PassStage T). at.hands) none.1;
+        streams = ap (λ (at : PassStage T). at.streams) none.1;
       };
     }
     behind first (Some how) last kept = record {
@@ -198,7 +197,7 @@ module _ {T : Type 0} (s : Setting T) (roots : List (List ℕ)) where
     }
 
 module _ {T : Type 0} (s : Setting T) (words : ServeWords) (before after : ProgramStage T) where
-  served_done : (code : Status) (run : IsServed s words before after code) → IsFreeServe s words.roots before after
+  served_done : (code : Status) (run : HasServed s words before after code) → IsFreeServe s words.roots before after
       → length run.log < LOG_LIMIT
       → All (λ (round : Round T). WritesPassLine round.end round.fate)
       (run.first ∷ rounds_behind s words.roots words.secs run.first run.how run.last run.passes)
@@ -206,18 +205,18 @@ module _ {T : Type 0} (s : Setting T) (words : ServeWords) (before after : Progr
       let on = behind s words.roots words.secs run.first run.how run.last run.passes in
       let rounds = rounds_behind s words.roots words.secs run.first run.how run.last run.passes in
       let each = sound_log run.broken run.log run.logs.void (λ is. free.store (run.store.cause.rose is)) in
-      let start = take (words.workers + 2) before.scene.hands in
+      let start = take (words.workers + 2) before.command.hands in
       let one = round_later s words.roots _ run.first.after run.first.end run.made.passes in
       let rest = rounds_later s words.roots words.secs start run.first.after on.mid rounds one on.go in
       let most : OfFirst s (IsFreeHand s.tells_files words.roots) start on.mid.hands
       = subst (λ (left : List T). OfFirst s (IsFreeHand s.tells_files words.roots) start left) (run.hands ∙ on.ends.hands)
-      (front_first s (IsFreeHand s.tells_files words.roots) (words.workers + 2) (omega arith) before.scene.hands after.scene.hands free.hand) in
+      (front_first s (IsFreeHand s.tells_files words.roots) (words.workers + 2) (omega arith) before.command.hands after.command.hands free.hand) in
       let parts = free_split s words.roots start run.first.after.hands on.mid.hands one rest most in
       let into = subst (λ (log : List Change). IsPrefix log run.log) on.ends.log run.within in
       let line = run.line.out.later in
       let one_line = out_later run.first.end run.told run.first.after.streams run.first.fate run.made.tells in
       let more = later_out s words.roots words.secs run.first.after on.mid rounds on.go in
-      let last : after.scene.streams.out.write_faults ≡ on.mid.streams.out.write_faults
+      let last : after.command.streams.out.write_faults ≡ on.mid.streams.out.write_faults
       = ap (λ (shown : ShownStream). shown.write_faults) run.out ∙ ap (λ (x : Streams). x.out.write_faults) on.ends.streams in
       All-cons (λ (round : Round T). WritesPassLine round.end round.fate) run.first rounds
       (pass_done s words.roots run.log _ run.first.after run.first.end run.first.fate run.made.passes run.made.tells parts.0 run.passed room
@@ -243,7 +242,7 @@ module _ {T : Type 0} (s : Setting T) (words : ServeWords) (before after : Progr
   serve_complete code (unopened fault run) free = refused_wants fault code run free
   serve_complete code (unserved run) free = by_said run.said
     where
-      by_said : SaysUnserved words before.scene.streams after.scene.streams code → code ≡ status.OutOfMemory
+      by_said : SaysUnserved words before.command.streams after.command.streams code → code ≡ status.OutOfMemory
       by_said (inl cut) = absurd (free.out cut.out.rose)
       by_said (inr late) = late.wants.ends
   serve_complete code (served run) free = λ room. served_done code run free room

@@ -20,7 +20,7 @@ use Rattle.dbgd_commands.specs.Kept.{StoreHoldsRows}
 use Rattle.dbgd_commands.specs.Opened.{EndsOnlyWith}
 use Rattle.dbgd_commands.specs.Scan.{Scans}
 use Rattle.dbgd_commands.specs.ScanSaid.{pass_saying}
-use Rattle.dbgd_commands.specs.Scene.{Setting}
+use Rattle.dbgd_commands.specs.Stage.{LeavesRest, ProgramStage, Setting}
 use Rattle.dbgd_commands.specs.declared.scan_end.ScanEnd.TheVariants as scanned
 use Rattle.dbgd_commands.specs.declared.status.Status.{Status}
 use Rattle.dbgd_commands.specs.declared.status.Status.TheVariants as status
@@ -28,11 +28,10 @@ use Rattle.dbgd_commands.proofs.RowLemmas.{none_bad, none_overfull}
 use Rattle.dbgd_commands.proofs.ScanLemmas.{bad_end, full_end}
 use Rattle.dbgd_commands.proofs.StoreLemmas.{scans_wanting}
 use Rattle.dbgd_run.specs.RoundSaid.{is_cut, is_unmade}
-use Rattle.dbgd_run.specs.Rounds.{KeepsPassing, PassingScene, Round}
-use Rattle.dbgd_run.specs.Serve.{IsServed, IsUnopened, PassesOn, RunsServe, SaysUnserved, ServeWords, served, served_scene, unopened, unserved}
+use Rattle.dbgd_run.specs.Rounds.{KeepsPassing, PassStage, Round}
+use Rattle.dbgd_run.specs.Serve.{HasServed, IsUnopened, PassesOn, RunsServe, SaysUnserved, ServeWords, served, served_setting, unopened, unserved}
 use Rattle.dbgd_run.specs.ServeCauses.{IsServedWell, ServeEnds, ServeStatus, SomeDoorRose, lines_behind}
 use Rattle.dbgd_run.specs.ServeSaid.{has_cut, is_any_failed, served_status, serving_line, wants_line}
-use Rattle.dbgd_commands.specs.Stage.{LeavesRest, ProgramStage}
 use Rattle.dbgd_run.specs.Workers.{WorkerFacts}
 use Rattle.dbgd_run.specs.declared.line_fate.LineFate.{LineFate}
 use Rattle.dbgd_run.specs.declared.passes_end.PassesEnd.{PassesEnd}
@@ -45,38 +44,38 @@ use Rattle.dbgd_run.proofs.TellLemmas.{out_later, out_rose, out_whole}
 
 module _ {T : Type 0} (s : Setting T) (roots : List (List ℕ)) (secs : ℕ) where
   -- the count of the standard output never falls while passes are made
-  keeps_later : (before after : PassingScene T) (how : PassesEnd) → KeepsPassing s roots secs before how after
+  keeps_later : (before after : PassStage T) (how : PassesEnd) → KeepsPassing s roots secs before how after
       → before.streams.out.write_faults ≤ after.streams.out.write_faults
   keeps_later before after Stopped keeps =
       let at = later_out s roots secs before keeps.last keeps.rounds keeps.go in
       let same : after.streams.out.write_faults ≡ keeps.last.streams.out.write_faults
-      = ap (λ (scene : PassingScene T). scene.streams.out.write_faults) keeps.ends.2.rest in
+      = ap (λ (at : PassStage T). at.streams.out.write_faults) keeps.ends.2.rest in
       omega (arith, at, same)
   keeps_later before after OutFailed keeps =
       let at = later_out s roots secs before keeps.last keeps.rounds keeps.go in
       let same : after.streams.out.write_faults ≡ keeps.last.streams.out.write_faults
-      = ap (λ (scene : PassingScene T). scene.streams.out.write_faults) keeps.ends.2.rest in
+      = ap (λ (at : PassStage T). at.streams.out.write_faults) keeps.ends.2.rest in
       omega (arith, at, same)
   keeps_later before after OutOfMemory keeps =
       let at = later_out s roots secs before keeps.last keeps.rounds keeps.go in
       let same : after.streams.out.write_faults ≡ keeps.last.streams.out.write_faults
-      = ap (λ (scene : PassingScene T). scene.streams.out.write_faults) keeps.ends.1 in
+      = ap (λ (at : PassStage T). at.streams.out.write_faults) keeps.ends.1 in
       omega (arith, at, same)
 
-  on_later : (first : Round T) (how : Option PassesEnd) (last : PassingScene T) → PassesOn s roots secs first how last
+  on_later : (first : Round T) (how : Option PassesEnd) (last : PassStage T) → PassesOn s roots secs first how last
       → first.after.streams.out.write_faults ≤ last.streams.out.write_faults
   on_later first None last none =
       let same : last.streams.out.write_faults ≡ first.after.streams.out.write_faults
-      = ap (λ (scene : PassingScene T). scene.streams.out.write_faults) none.1 in
+      = ap (λ (at : PassStage T). at.streams.out.write_faults) none.1 in
       omega (arith, same)
   on_later first (Some how) last kept = keeps_later first.after last how kept.1
 
   -- where memory was not refused for a line, and none was refused by the standard output, it got each line
-  on_out : (first : Round T) (how : Option PassesEnd) (last : PassingScene T) (passes : PassesOn s roots secs first how last)
+  on_out : (first : Round T) (how : Option PassesEnd) (last : PassStage T) (passes : PassesOn s roots secs first how last)
       → wants_line first.fate how ≡ false → has_cut first.fate how ≡ false
       → GetsAll (lines_behind s roots secs first how last passes) first.after.streams.out last.streams.out
   on_out first None last none wants cut =
-      subst (λ (scene : PassingScene T). GetsAll [] first.after.streams.out scene.streams.out) (sym none.1)
+      subst (λ (at : PassStage T). GetsAll [] first.after.streams.out at.streams.out) (sym none.1)
       (gets_none first.after.streams.out)
   on_out first (Some Stopped) last kept wants cut = kept.1.out refl
   on_out first (Some OutFailed) last kept wants cut = absurd (true≢false cut)
@@ -96,7 +95,7 @@ module _ {T : Type 0} (s : Setting T) (roots : List (List ℕ)) (secs : ℕ) whe
   first_whole fate (Some OutOfMemory) cut = cut
 
   -- a line was refused only where the count rose
-  on_rose : (first : Round T) (how : Option PassesEnd) (last : PassingScene T) (low : ℕ) → PassesOn s roots secs first how last
+  on_rose : (first : Round T) (how : Option PassesEnd) (last : PassStage T) (low : ℕ) → PassesOn s roots secs first how last
       → low ≤ first.after.streams.out.write_faults
       → (is_cut first.fate ≡ true → Rose low first.after.streams.out.write_faults)
       → has_cut first.fate how ≡ true → Rose low last.streams.out.write_faults
@@ -122,38 +121,38 @@ not_void true log void is = absurd (true≢false is)
 not_void false log void is = λ ends. never_both void ends
 
 module _ {T : Type 0} (s : Setting T) (words : ServeWords) (before after : ProgramStage T) where
-  module _ (code : Status) (run : IsServed s words before after code) where
+  module _ (code : Status) (run : HasServed s words before after code) where
     -- the count of the standard output behind the first pass
-    first_least : before.scene.streams.out.write_faults ≤ run.first.after.streams.out.write_faults
+    first_least : before.command.streams.out.write_faults ≤ run.first.after.streams.out.write_faults
     first_least =
         let line = run.line.out.later in
         let pass = out_later run.first.end run.told run.first.after.streams run.first.fate run.made.tells in
         omega (arith, line, pass)
 
     cut_rose : has_cut run.first.fate run.how ≡ true
-        → Rose before.scene.streams.out.write_faults after.scene.streams.out.write_faults
+        → Rose before.command.streams.out.write_faults after.command.streams.out.write_faults
     cut_rose cut =
         let least = first_least in
-        let rose = on_rose s words.roots words.secs run.first run.how run.last before.scene.streams.out.write_faults run.passes least
+        let rose = on_rose s words.roots words.secs run.first run.how run.last before.command.streams.out.write_faults run.passes least
         (λ one.
         let line = run.line.out.later in
         let pass = out_rose run.first.end run.told run.first.after.streams run.first.fate run.made.tells one in
         omega (arith, line, pass)) cut in
-        let same : after.scene.streams.out.write_faults ≡ run.last.streams.out.write_faults = ap (λ (shown : ShownStream). shown.write_faults) run.out in
+        let same : after.command.streams.out.write_faults ≡ run.last.streams.out.write_faults = ap (λ (shown : ShownStream). shown.write_faults) run.out in
         omega (arith, rose, same)
 
     failed_rose : is_any_failed after.doors ≡ true → SomeDoorRose before.doors after.doors
     failed_rose failed =
         subst (λ (doors : List ShownDoor). SomeDoorRose doors after.doors) run.workers_are.doors
         (subst (λ (doors : List ShownDoor). SomeDoorRose (map (λ (worker : WorkerFacts T). worker.door) run.workers) doors) run.left_are.doors
-        (some_rose (served_scene s words) run.first.after.log run.log run.workers run.left run.doors
+        (some_rose (served_setting s words) run.first.after.log run.log run.workers run.left run.doors
         (subst (λ (doors : List ShownDoor). is_any_failed doors ≡ true) (sym run.left_are.doors) failed)))
 
     all_out : wants_line run.first.fate run.how ≡ false → has_cut run.first.fate run.how ≡ false
         → GetsAll
         (serving_line words.port words.workers ++ (pass_saying run.first.end).out
         ++ lines_behind s words.roots words.secs run.first run.how run.last run.passes)
-        before.scene.streams.out after.scene.streams.out
+        before.command.streams.out after.command.streams.out
     all_out wants cut =
         let made = first_made s words.roots words.secs run.first.fate run.how wants in
         let whole = first_whole s words.roots words.secs run.first.fate run.how cut in
@@ -161,14 +160,14 @@ module _ {T : Type 0} (s : Setting T) (words : ServeWords) (before after : Progr
         (λ (shown : ShownStream). GetsAll
         (serving_line words.port words.workers ++ (pass_saying run.first.end).out
         ++ lines_behind s words.roots words.secs run.first run.how run.last run.passes)
-        before.scene.streams.out shown) (sym run.out)
+        before.command.streams.out shown) (sym run.out)
         (gets_both
         (gets_both run.line.out (out_whole run.first.end run.told run.first.after.streams run.first.fate run.made.tells whole made))
         (on_out s words.roots words.secs run.first run.how run.last run.passes wants cut))
 
   -- where none of the four things came, all went well
   abbrev IsWellFrom : Status → Type 0
-  IsWellFrom code = (run : IsServed s words before after code) → wants_line run.first.fate run.how ≡ false
+  IsWellFrom code = (run : HasServed s words before after code) → wants_line run.first.fate run.how ≡ false
       → has_cut run.first.fate run.how ≡ false → is_any_failed after.doors ≡ false → run.broken ≡ false
       → IsServedWell s words before after
 
@@ -177,14 +176,14 @@ module _ {T : Type 0} (s : Setting T) (words : ServeWords) (before after : Progr
     serves = run;
     closed =
         subst (λ (doors : List ShownDoor). All (λ (door : ShownDoor). door.last ≡ Some said.Closed) doors) run.left_are.doors
-        (all_closed (served_scene s words) run.first.after.log run.log run.workers run.left run.doors
+        (all_closed (served_setting s words) run.first.after.log run.log run.workers run.left run.doors
         (subst (λ (doors : List ShownDoor). is_any_failed doors ≡ false) (sym run.left_are.doors) failed));
     sound = not_void run.broken run.log run.logs.void sound;
     out = all_out status.Done run wants cut;
   }
 
   -- what the status of a server that served says, by the four things that it goes by
-  by_four : (code : Status) → (run : IsServed s words before after code) → (wants cut failed broken : Bool)
+  by_four : (code : Status) → (run : HasServed s words before after code) → (wants cut failed broken : Bool)
       → wants_line run.first.fate run.how ≡ wants → has_cut run.first.fate run.how ≡ cut → is_any_failed after.doors ≡ failed
       → run.broken ≡ broken → code ≡ served_status wants (cut || (failed || broken)) → ServeStatus s words before after code
   by_four code run true cut failed broken w c f b is = subst (ServeStatus s words before after) (sym is) tt
@@ -224,7 +223,7 @@ module _ {T : Type 0} (s : Setting T) (words : ServeWords) (before after : Progr
   serve_status code (unopened fault run) = refused_status fault code run
   serve_status code (unserved run) = by_said run.said
     where
-      by_said : SaysUnserved words before.scene.streams after.scene.streams code → ServeStatus s words before after code
+      by_said : SaysUnserved words before.command.streams after.command.streams code → ServeStatus s words before after code
       by_said (inl cut) = subst (ServeStatus s words before after) (sym cut.ends) (inr (inr cut.out.rose))
       by_said (inr late) = subst (ServeStatus s words before after) (sym late.wants.ends) tt
   serve_status code (served run) =
@@ -232,18 +231,18 @@ module _ {T : Type 0} (s : Setting T) (words : ServeWords) (before after : Progr
       refl refl run.ends
 
   -- the rows that were found are those of the store, where it tells
-  told_rows : (found : List RowFacts) → IsTrue s.tells_tables → StoreHoldsRows s.tells_tables before.scene.store found
-      → AreRows found before.scene.store.tables
+  told_rows : (found : List RowFacts) → IsTrue s.tells_tables → StoreHoldsRows s.tells_tables before.command.store found
+      → AreRows found before.command.store.tables
   told_rows found tells held = subst (λ (values : List KeptFacts). AreRows found values) (held.gave.tells tells) held.sound
 
   pub serve_ends : (code : Status) → RunsServe s words before after code → ServeEnds s before after code
   serve_ends code (unopened fault run) = record {
     bad = λ tells bad.
-        subst (EndsOnlyWith status.BadRow before.scene.store after.scene.store) (sym run.said.ends)
-        (bad_end s words.path words.roots before.scene after.scene (scanned.Refused fault) tells bad run.scans);
+        subst (EndsOnlyWith status.BadRow before.command.store after.command.store) (sym run.said.ends)
+        (bad_end s words.path words.roots before.command after.command (scanned.Refused fault) tells bad run.scans);
     overfull = λ tells full.
-        subst (EndsOnlyWith status.Limit before.scene.store after.scene.store) (sym run.said.ends)
-        (full_end s words.path words.roots before.scene after.scene (scanned.Refused fault) tells full run.scans);
+        subst (EndsOnlyWith status.Limit before.command.store after.command.store) (sym run.said.ends)
+        (full_end s words.path words.roots before.command after.command (scanned.Refused fault) tells full run.scans);
   }
   serve_ends code (unserved run) = record {
     bad = λ tells bad. absurd (none_bad bad.fault (told_rows run.found tells run.held) bad.held bad.bad);
@@ -255,14 +254,14 @@ module _ {T : Type 0} (s : Setting T) (words : ServeWords) (before after : Progr
   }
 
   -- memory was refused before the store was opened, and nothing was asked for
-  pub serve_wanting : (code : Status) → 0 < length before.scene.hands → after.scene.hands ≡ before.scene.hands
-      → after.scene.store ≡ before.scene.store → SaysMemory before.scene.streams after.scene.streams code → LeavesRest before after
+  pub serve_wanting : (code : Status) → 0 < length before.command.hands → after.command.hands ≡ before.command.hands
+      → after.command.store ≡ before.command.store → SaysMemory before.command.streams after.command.streams code → LeavesRest before after
       → RunsServe s words before after code
   serve_wanting code some hands store said rest =
       unopened refusal.OutOfMemory (record {
         scans =
             subst
-            (λ (left : List T). Scans s words.path words.roots before.scene.hands left before.scene.store after.scene.store (scanned.Refused refusal.OutOfMemory))
+            (λ (left : List T). Scans s words.path words.roots before.command.hands left before.command.store after.command.store (scanned.Refused refusal.OutOfMemory))
             (sym hands) (scans_wanting s words.path some store);
         said = said;
         rest = rest;

@@ -1,18 +1,27 @@
--- A first pass, and what goes on behind it.
+-- A first pass, and what goes on behind it; what was said at beginnings of a log; a keeper on which an index was opened.
 use Rattle.std.proofs.Common.{◌≡◌, ◌⊎◌, inl, inr, ℕ, ◌<◌, nat_lt, Bool, true, false, List, Option, Some, None, refl, sym, ◌∙◌, arith}
 use Rattle.std.specs.List.{AllZip}
 use Rattle.std.proofs.lemmas.Bool.{false≢true}
 use Rattle.std.proofs.lemmas.Bool.Decides.{nat_tests}
 use mathlib.Core.List.{IsPrefix}
+use Rattle.index_keeper.specs.Keeper.{ShownKeeper}
+use Rattle.index_lock.proofs.Prefixes.{prefix_trans}
 use Rattle.index_rows.specs.declared.change.Change.{Change}
-use Rattle.dbgd_run.specs.Rounds.{PassingScene, Round}
+use Rattle.index_state.specs.Opening.{Opens}
+use Rattle.index_state.specs.State.{StateFacts}
+use Rattle.dbgd_commands.specs.Endings.{Streams}
+use Rattle.dbgd_run.specs.Rounds.{PassStage, Round}
 use Rattle.dbgd_run.specs.Serve.{MakesRound}
-use Rattle.dbgd_run.specs.Serving.{CrewFacts, GoesOn, ServeRules, ServesFrom, goes_on}
-use Rattle.dbgd_run.specs.Workers.{PlaceServed}
+use Rattle.dbgd_run.specs.ServeSaid.{Announces}
+use Rattle.dbgd_run.specs.Serving.{ServeStage, GoesOn, ServeSetting, ServesFrom, ServesIndex, ServesKeeper, goes_on}
+use Rattle.dbgd_run.specs.Workers.{WorkerServed}
 use Rattle.dbgd_run.specs.declared.line_fate.LineFate.{LineFate}
 use Rattle.dbgd_run.specs.declared.line_fate.LineFate.TheVariants.{Written, Cut, Unmade}
 use Rattle.dbgd_run.specs.declared.passes_end.PassesEnd.{PassesEnd}
-use Rattle.dbgd_run.specs.declared.places.DoorPlace.{DoorPlace}
+use Rattle.dbgd_run.specs.declared.serve_end.ServeEnd.{ServeEnd}
+use Rattle.dbgd_run.specs.declared.serve_end.ServeEnd.TheVariants.{Refused, Unannounced, Unlocked, Served}
+use Rattle.dbgd_run.specs.declared.worker.Worker.{Worker}
+use Rattle.dbgd_run.proofs.WorkerLemmas.{served_later}
 
 -- a number is 0, or greater, as the test says
 none_more : (n : ℕ) → nat_lt 0 n ≡ false → n ≡ 0
@@ -33,12 +42,12 @@ some_on secs Unmade e = absurd (false≢true e)
 some_on secs Written e = some_more secs e
 some_on secs Cut e = some_more secs e
 
-module _ {T D L : Type 0} (r : ServeRules T D L) (before : PassingScene T) (places : List (DoorPlace T D L)) (first : Round T) where
-  pub serves_from : (how : Option PassesEnd) (joined : List Change) (after : CrewFacts T D L) (passing : Bool)
+module _ {T D L : Type 0} (r : ServeSetting T D L) (before : PassStage T) (workers : List (Worker T D L)) (first : Round T) where
+  pub serves_from : (how : Option PassesEnd) (joined : List Change) (after : ServeStage T D L) (passing : Bool)
       → MakesRound r.setting r.roots before first → passing ≡ goes_on r.secs first.fate → IsPrefix first.after.log joined
-      → AllZip (PlaceServed r.scene r.sees r.views first.after.log joined) places after.places
+      → AllZip (WorkerServed r.doors r.sees r.views first.after.log joined) workers after.workers
       → GoesOn r.setting r.roots r.secs passing first.after how joined after
-      → ServesFrom r before places first.fate how joined after
+      → ServesFrom r before workers first.fate how joined after
   serves_from None joined after passing made is later doors on = record {
     first = first;
     fate_is = refl;
@@ -65,3 +74,33 @@ module _ {T D L : Type 0} (r : ServeRules T D L) (before : PassingScene T) (plac
     woke = on.1.woke;
     streams = on.1.streams;
   }
+
+pub serves_later : {T D L : Type 0} (r : ServeSetting T D L) (before : PassStage T) (workers : List (Worker T D L)) (fate : LineFate)
+    (how : Option PassesEnd) (joined last : List Change) (after : ServeStage T D L) → IsPrefix joined last
+    → ServesFrom r before workers fate how joined after → ServesFrom r before workers fate how last after
+serves_later r before workers fate how joined last after more run = record {
+  first = run.first;
+  fate_is = run.fate_is;
+  made = run.made;
+  passed = prefix_trans run.first.after.log joined last run.passed more;
+  doors = served_later r.doors r.sees r.views run.first.after.log joined last more workers after.workers run.doors;
+  last = run.last;
+  passes = run.passes;
+  within = prefix_trans run.last.log joined last run.within more;
+  hands = run.hands;
+  woke = run.woke;
+  streams = run.streams;
+}
+
+module _ {K T D L : Type 0} (r : ServeSetting T D L) (shows : K → ShownKeeper) (line : List ℕ) (opened keeper : K) (before : PassStage T)
+    (workers : List (Worker T D L)) where
+  pub keeper_opened : (end : ServeEnd) (after : ServeStage T D L) {old : StateFacts K} {told : Streams}
+      → Opens r.setting.tells_tables shows opened old → Announces line true before.streams told
+      → ServesIndex r shows old (record before { log = old.log; streams = told }) workers end keeper after
+      → ServesKeeper r shows line opened before workers end keeper after
+  keeper_opened (Refused fault) after opens says serves = absurd serves
+  keeper_opened Unannounced after opens says serves = absurd serves
+  keeper_opened Unlocked after {old} {told} opens says serves =
+      record { old = old; opens = opens; told = told; says = says; serves = serves }
+  keeper_opened (Served fate how broken) after {old} {told} opens says serves =
+      record { old = old; opens = opens; told = told; says = says; serves = serves }

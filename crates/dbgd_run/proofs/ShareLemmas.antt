@@ -1,5 +1,5 @@
 -- What a share counts of passes.
-use Rattle.std.proofs.Common.{◌≡◌, ◌≢◌, ℕ, suc, ◌+◌, ◌*◌, ◌<◌, ◌≤◌, Bool, true, false, List, [], ◌∷◌, length, get_or, set, eqb, if◌then◌else◌, refl, sym, ap, subst, ◌∙◌, arith, get_or-set_same, get_or-set_other, length-set}
+use Rattle.std.proofs.Common.{◌≡◌, ◌≢◌, ℕ, suc, ◌+◌, ◌<◌, ◌≤◌, Bool, true, false, List, [], ◌∷◌, length, get_or, set, eqb, if◌then◌else◌, refl, sym, ap, subst, ◌∙◌, arith, get_or-set_same, get_or-set_other, length-set}
 use Rattle.std.proofs.lemmas.Bool.{true≢false}
 use Rattle.dbgd_metrics.specs.Counts.{Counts, numbers_after}
 use Rattle.dbgd_metrics.specs.Numbers.{count_of_numbers, number_of_row, number_place, place_in, route_place, statuses}

@@ -19,11 +19,11 @@ use Rattle.dbgd_commands.specs.declared.scan_end.ScanEnd.TheVariants as scanned
 use Rattle.dbgd_commands.proofs.HandLemmas.{hands_stay}
 use Rattle.dbgd_commands.proofs.PassLemmas.{has_found, has_rows, held, made_found, may_have, told_since}
 use Rattle.dbgd_commands.proofs.StoreLemmas.{refused_by, refused_fault, rose_counted, scans_opened}
-use Rattle.dbgd_run.specs.Rounds.{PassingScene}
+use Rattle.dbgd_run.specs.Rounds.{PassStage}
 use Rattle.dbgd_run.specs.Serve.{HasServedLog, StoreServes}
 use Rattle.dbgd_run.specs.ServeSaid.{Announces}
-use Rattle.dbgd_run.specs.Serving.{CrewFacts, ServeRules, ServesFrom, ServesKeeper, ServesStore}
-use Rattle.dbgd_run.specs.declared.places.DoorPlace.{DoorPlace}
+use Rattle.dbgd_run.specs.Serving.{ServeStage, ServeSetting, ServesFrom, ServesKeeper, ServesStore}
+use Rattle.dbgd_run.specs.declared.worker.Worker.{Worker}
 use Rattle.dbgd_run.specs.declared.serve_end.ServeEnd.{ServeEnd}
 use Rattle.dbgd_run.specs.declared.serve_end.ServeEnd.TheVariants.{Refused, Unannounced, Unlocked, Served}
 
@@ -44,7 +44,7 @@ lasting_into : (broken : Bool) (log : List Change) → IsPrefix (lasting broken 
 lasting_into false log = prefix_self log
 lasting_into true log = (drop (length log - 1) log, take-append-drop (length log - 1) log)
 
-module _ {K T D L : Type 0} (r : ServeRules T D L) (shows : K → ShownKeeper) (path line : List ℕ) (before : PassingScene T) (places : List (DoorPlace T D L)) (from mid into : ShownStore) (keeper given : K) where
+module _ {K T D L : Type 0} (r : ServeSetting T D L) (shows : K → ShownKeeper) (path line : List ℕ) (before : PassStage T) (workers : List (Worker T D L)) (from mid into : ShownStore) (keeper given : K) where
   -- the store was opened, had its keeper back, and its count rose where the index broke
   store_serves : (broken : Bool) → IsOpened r.setting.tells_tables path from mid (shows keeper)
       → TakesKeeperBack r.setting.tells_tables (shows given) mid into → (broken ≡ true → 0 < (shows given).faults)
@@ -93,18 +93,19 @@ module _ {K T D L : Type 0} (r : ServeRules T D L) (shows : K → ShownKeeper) (
         may_have = may_have r.setting lent holds;
       }
 
-  pub store_opened : (end : ServeEnd) (after : CrewFacts T D L) → IsOpened r.setting.tells_tables path from mid (shows keeper)
+  pub store_opened : (end : ServeEnd) (after : ServeStage T D L) → IsOpened r.setting.tells_tables path from mid (shows keeper)
       → TakesKeeperBack r.setting.tells_tables (shows given) mid into → 0 < length before.hands
-      → ServesKeeper r shows line keeper before places end given after
-      → ServesStore r path line from into before places end after
+      → ServesKeeper r shows line keeper before workers end given after
+      → ServesStore r path line from into before workers end after
   store_opened (Refused fault) after opened back some run = record {
     scans =
         subst (λ (hands : List T). Scans r.setting path r.roots before.hands hands from into (scanned.Refused fault))
-        (sym (ap (λ (c : CrewFacts T D L). c.hands) run.same))
+        (sym run.same.0)
         (scans_opened r.setting path (scanned.Refused fault) opened back
         (record { hands = refl; store = refused_by r.setting.tells_tables shows opened.holds back fault run.refuses run.left })
         (hands_stay r.setting.tells_files r.setting.world.version r.setting.sees before.hands some (λ e. absurd (cc))) tt
         (λ f. run.counted (refused_fault fault f)));
+    quiet = run.quiet;
     same = run.same;
   }
   store_opened Unannounced after opened back some run =
@@ -115,9 +116,7 @@ module _ {K T D L : Type 0} (r : ServeRules T D L) (shows : K → ShownKeeper) (
         made = made_found r.setting lent run.holds refl;
         store = store_serves false opened back (λ e. absurd (false≢true e));
         says = run.says;
-        hands = ap (λ (c : CrewFacts T D L). c.hands) run.same;
-        woke = ap (λ (c : CrewFacts T D L). c.woke) run.same;
-        same = ap (λ (c : CrewFacts T D L). c.places) run.same;
+        same = run.same;
       }
   store_opened Unlocked after opened back some run =
       let lent = lent_by {old = run.old} {new = run.old} run.serves.value run.opens opened back in record {
@@ -127,10 +126,8 @@ module _ {K T D L : Type 0} (r : ServeRules T D L) (shows : K → ShownKeeper) (
         made = made_found r.setting lent run.serves.holds refl;
         store = store_serves false opened back (λ e. absurd (false≢true e));
         says =
-            subst (λ (shown : Streams). Announces line true before.streams shown) (sym (ap (λ (c : CrewFacts T D L). c.streams) run.serves.same)) run.says;
-        hands = ap (λ (c : CrewFacts T D L). c.hands) run.serves.same;
-        woke = ap (λ (c : CrewFacts T D L). c.woke) run.serves.same;
-        same = ap (λ (c : CrewFacts T D L). c.places) run.serves.same;
+            subst (λ (shown : Streams). Announces line true before.streams shown) (sym run.serves.quiet) run.says;
+        same = run.serves.same;
       }
   store_opened (Served fate how broken) after opened back some run =
       let one = run.serves in
@@ -151,6 +148,6 @@ module _ {K T D L : Type 0} (r : ServeRules T D L) (shows : K → ShownKeeper) (
         says = run.says;
         serves =
             subst
-            (λ (log : List Change). ServesFrom r (record before { log = log; streams = run.told }) places fate how one.new.log after)
+            (λ (log : List Change). ServesFrom r (record before { log = log; streams = run.told }) workers fate how one.new.log after)
             (ap (λ (st : StateFacts K). st.log) lent.opens.opened.value) one.serves;
       }

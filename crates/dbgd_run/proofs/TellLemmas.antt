@@ -1,5 +1,5 @@
 -- What is told of the end of a pass, and what the sinks got of it.
-use Rattle.std.proofs.Common.{◌≡◌, ◌⊎◌, inl, inr, ◌≤◌, Bool, true, false, refl, sym, subst, arith}
+use Rattle.std.proofs.Common.{◌≡◌, inl, inr, ◌≤◌, true, false, refl, sym, subst}
 use Rattle.std.proofs.lemmas.Bool.{false≢true, true≢false}
 use Rattle.row_types.specs.Faults.{Rose}
 use Rattle.scan_queue.specs.declared.miss.Cause.{Cause}
@@ -10,7 +10,6 @@ use Rattle.pass_runner.specs.declared.pass_end.PassEnd.TheVariants as ended
 use Rattle.dbgd_commands.specs.Endings.{EndsWhole, Gets, Saying, Streams}
 use Rattle.dbgd_commands.specs.ScanSaid.{SaysMiss, SaysPass, pass_saying}
 use Rattle.dbgd_commands.specs.declared.status.Status.{Status}
-use Rattle.dbgd_commands.specs.declared.status.Status.TheVariants as status
 use Rattle.dbgd_run.specs.RoundSaid.{TellsPass, err_told, fate_by, is_cut, is_unmade}
 use Rattle.dbgd_run.specs.declared.line_fate.LineFate.{LineFate}
 use Rattle.dbgd_run.specs.declared.line_fate.LineFate.TheVariants as fated

@@ -16,8 +16,8 @@ use Rattle.conn_server.specs.Connection.{AreExchanges, LogsGrow, is_last_request
 use Rattle.conn_server.specs.Doors.{AreVisits, Visit, all_exchanges}
 use Rattle.conn_server.specs.Exchange.{Exchange}
 use Rattle.conn_server.specs.Stage.{ConnSetting, ConnStage}
-use Rattle.dbgd_run.specs.Workers.{IsServedBetween, PlaceServed, RunsPlace}
-use Rattle.dbgd_run.specs.declared.places.DoorPlace.{DoorPlace}
+use Rattle.dbgd_run.specs.Workers.{IsServedBetween, RunsWorker, WorkerServed}
+use Rattle.dbgd_run.specs.declared.worker.Worker.{Worker}
 use Rattle.dbgd_run.proofs.GenerationLemmas.{generation_is}
 
 prefix_length : (xs ys : List Change) → IsPrefix xs ys → length xs ≤ length ys
@@ -29,11 +29,11 @@ ends_within first log [] grow = grow
 ends_within first log (x ∷ xs) grow = prefix_trans first x.log log grow.0 (ends_within x.log log xs grow.1)
 
 -- each of these requests was answered by a log between the two
-exchanges_between : {T : Type 0} (scene : ConnSetting T) (at : ConnStage T) (first early log last : List Change) (place : ℕ) (xs : List Exchange)
-    → IsPrefix first early → IsPrefix log last → AreExchanges scene at place xs → LogsGrow early xs log
+exchanges_between : {T : Type 0} (setting : ConnSetting T) (at : ConnStage T) (first early log last : List Change) (place : ℕ) (xs : List Exchange)
+    → IsPrefix first early → IsPrefix log last → AreExchanges setting at place xs → LogsGrow early xs log
     → All (IsServedBetween first last) xs
-exchanges_between scene at first early log last place [] from into are grow = All-nil (IsServedBetween first last)
-exchanges_between scene at first early log last place (x ∷ xs) from into are grow =
+exchanges_between setting at first early log last place [] from into are grow = All-nil (IsServedBetween first last)
+exchanges_between setting at first early log last place (x ∷ xs) from into are grow =
     let left = prefix_trans first early x.log from grow.0 in
     let right = prefix_trans x.log log last (ends_within x.log log xs grow.1) into in
     let low = prefix_length first x.log left in
@@ -41,22 +41,22 @@ exchanges_between scene at first early log last place (x ∷ xs) from into are g
     All-cons (IsServedBetween first last) x xs
     (record {
       logs = record { from = left; into = right };
-      least = λ asked. let same = generation_is scene (is_last_request place) at x are.0 asked in omega (arith, low, same);
-      most = λ asked. let same = generation_is scene (is_last_request place) at x are.0 asked in omega (arith, high, same);
+      least = λ asked. let same = generation_is setting (is_last_request place) at x are.0 asked in omega (arith, low, same);
+      most = λ asked. let same = generation_is setting (is_last_request place) at x are.0 asked in omega (arith, high, same);
     })
-    (exchanges_between scene at first x.log log last (place + 1) xs left into are.1 grow.1)
+    (exchanges_between setting at first x.log log last (place + 1) xs left into are.1 grow.1)
 
 -- the same of the exchanges of all visits: each visit's are lawful from its own place 0
-visits_between : {T : Type 0} (scene : ConnSetting T) (at : ConnStage T) (first early log last : List Change) (visits : List Visit)
-    → IsPrefix first early → IsPrefix log last → AreVisits scene at visits → LogsGrow early (all_exchanges visits) log
+visits_between : {T : Type 0} (setting : ConnSetting T) (at : ConnStage T) (first early log last : List Change) (visits : List Visit)
+    → IsPrefix first early → IsPrefix log last → AreVisits setting at visits → LogsGrow early (all_exchanges visits) log
     → All (IsServedBetween first last) (all_exchanges visits)
-visits_between scene at first early log last [] from into are grow = All-nil (IsServedBetween first last)
-visits_between scene at first early log last (one ∷ visits) from into are grow =
+visits_between setting at first early log last [] from into are grow = All-nil (IsServedBetween first last)
+visits_between setting at first early log last (one ∷ visits) from into are grow =
     let cut = logs_cut early log one.xs (all_exchanges visits) grow in
     All-append (IsServedBetween first last) one.xs (all_exchanges visits)
-    (exchanges_between scene at first early cut.0 last 0 one.xs from
+    (exchanges_between setting at first early cut.0 last 0 one.xs from
     (prefix_trans cut.0 log last (ends_within cut.0 log (all_exchanges visits) cut.2) into) are.0 cut.1)
-    (visits_between scene at first cut.0 log last visits
+    (visits_between setting at first cut.0 log last visits
     (prefix_trans first early cut.0 from (ends_within early cut.0 one.xs cut.1)) into are.1 cut.2)
   where
     -- a row of logs in two
@@ -65,42 +65,42 @@ visits_between scene at first early log last (one ∷ visits) from into are grow
     logs_cut early log [] ys grow = (early, prefix_self early, grow)
     logs_cut early log (x ∷ xs) ys grow = let rest = logs_cut x.log log xs ys grow.1 in (rest.0, (grow.0, rest.1), rest.2)
 
-module _ {T D L : Type 0} (scene : ConnSetting T) (sees : D → ShownDoor) (views : L → ShownLink) where
-  served_by : (start last : SeatFacts Change Origin) (before after : DoorPlace T D L)
-      → RunsBy (RunsPlace scene sees views) start last before after → PlaceServed scene sees views start.seen last.seen before after
+module _ {T D L : Type 0} (setting : ConnSetting T) (sees : D → ShownDoor) (views : L → ShownLink) where
+  served_by : (start last : SeatFacts Change Origin) (before after : Worker T D L)
+      → RunsBy (RunsWorker setting sees views) start last before after → WorkerServed setting sees views start.seen last.seen before after
   served_by start last before after ran = record {
     by = record {
       log = ran.seat.seen;
       into = ran.seen;
       ran = ran.made.ran;
       between =
-          visits_between scene _ start.seen start.seen ran.seat.seen last.seen ran.made.ran.serves.serves.visits
+          visits_between setting _ start.seen start.seen ran.seat.seen last.seen ran.made.ran.serves.serves.visits
           (prefix_self start.seen) ran.seen ran.made.ran.serves.serves.are ran.made.ran.serves.serves.logs;
     };
     kept = ran.made.kept;
   }
 
-  pub all_served : (start last : SeatFacts Change Origin) (before after : List (DoorPlace T D L))
-      → AllZip (RunsBy (RunsPlace scene sees views) start last) before after
-      → AllZip (PlaceServed scene sees views start.seen last.seen) before after
+  pub all_served : (start last : SeatFacts Change Origin) (before after : List (Worker T D L))
+      → AllZip (RunsBy (RunsWorker setting sees views) start last) before after
+      → AllZip (WorkerServed setting sees views start.seen last.seen) before after
   all_served start last before after ran = zip_weaker (λ b a one. served_by start last b a one) before after ran
 
-  later_one : (first mid last : List Change) → IsPrefix mid last → (before after : DoorPlace T D L)
-      → PlaceServed scene sees views first mid before after → PlaceServed scene sees views first last before after
+  later_one : (first mid last : List Change) → IsPrefix mid last → (before after : Worker T D L)
+      → WorkerServed setting sees views first mid before after → WorkerServed setting sees views first last before after
   later_one first mid last more before after one = record {
     by = record {
       log = one.by.log;
       into = prefix_trans one.by.log mid last one.by.into more;
       ran = one.by.ran;
       between =
-          visits_between scene _ first first one.by.log last one.by.ran.serves.serves.visits (prefix_self first)
+          visits_between setting _ first first one.by.log last one.by.ran.serves.serves.visits (prefix_self first)
           (prefix_trans one.by.log mid last one.by.into more) one.by.ran.serves.serves.are one.by.ran.serves.serves.logs;
     };
     kept = one.kept;
   }
 
-  pub served_later : (first mid last : List Change) → IsPrefix mid last → (before after : List (DoorPlace T D L))
-      → AllZip (PlaceServed scene sees views first mid) before after → AllZip (PlaceServed scene sees views first last) before after
+  pub served_later : (first mid last : List Change) → IsPrefix mid last → (before after : List (Worker T D L))
+      → AllZip (WorkerServed setting sees views first mid) before after → AllZip (WorkerServed setting sees views first last) before after
   served_later first mid last more before after all =
       zip_weaker (λ b a one. later_one first mid last more b a one) before after all
 

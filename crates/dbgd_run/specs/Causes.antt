@@ -5,15 +5,14 @@ use Rattle.dbgd_words.specs.Words.{Line, asks_help, asks_ident, asks_query, asks
 use Rattle.dbgd_words.specs.Words.{asks_sources, asks_trial, has_options, unreadable}
 use Rattle.dbgd_commands.specs.CommandCauses.{FileStatus, ScanStatus, TrialStatus}
 use Rattle.dbgd_commands.specs.QueryCauses.{QueryStatus}
-use Rattle.dbgd_commands.specs.Scene.{ProgramScene, Setting}
+use Rattle.dbgd_commands.specs.Stage.{CommandStage, ProgramStage, Setting}
 use Rattle.dbgd_commands.specs.declared.status.Status.{Status}
 use Rattle.dbgd_commands.specs.declared.status.Status.TheVariants.{Done, Fault, Usage, OutOfMemory}
 use Rattle.dbgd_run.specs.Serve.{serve_words}
 use Rattle.dbgd_run.specs.ServeCauses.{ServeStatus}
-use Rattle.dbgd_commands.specs.Stage.{ProgramStage}
 
 -- of a help or version: only the standard output can fail
-abbrev pub HelpStatus : {T : Type 0} → ProgramScene T → ProgramScene T → Status → Type 0
+abbrev pub HelpStatus : {T : Type 0} → CommandStage T → CommandStage T → Status → Type 0
 HelpStatus before after Done = Unit {0}
 HelpStatus before after Fault = Rose before.streams.out.write_faults after.streams.out.write_faults
 HelpStatus before after OutOfMemory = Unit {0}
@@ -27,15 +26,15 @@ UsageStatus words _ = ⊥
 
 -- what the status says, by the line; words that can't be read alone end with the usage
 abbrev pub HasStatus : {T : Type 0} → Setting T → List (List ℕ) → Line → ProgramStage T → ProgramStage T → Status → Type 0
-HasStatus s words (asks_ident path) before after status = FileStatus s before.scene after.scene status
-HasStatus s words (asks_sources path) before after status = FileStatus s before.scene after.scene status
-HasStatus s words (asks_section path name) before after status = FileStatus s before.scene after.scene status
-HasStatus s words (asks_query path id) before after status = QueryStatus s id before.scene after.scene status
+HasStatus s words (asks_ident path) before after status = FileStatus s before.command after.command status
+HasStatus s words (asks_sources path) before after status = FileStatus s before.command after.command status
+HasStatus s words (asks_section path name) before after status = FileStatus s before.command after.command status
+HasStatus s words (asks_query path id) before after status = QueryStatus s id before.command after.command status
 HasStatus s words (asks_scan path workers roots) before after status =
-    ScanStatus s roots before.scene after.scene status
+    ScanStatus s roots before.command after.command status
 HasStatus s words (asks_trial seed files workers) before after status =
-    TrialStatus seed files before.scene after.scene status
-HasStatus s words asks_help before after status = HelpStatus before.scene after.scene status
+    TrialStatus seed files before.command after.command status
+HasStatus s words asks_help before after status = HelpStatus before.command after.command status
 HasStatus s words (asks_serve path workers port secs sources upstream roots) before after status =
     ServeStatus s (serve_words path workers port secs sources upstream roots) before after status
 HasStatus s words unreadable before after status = UsageStatus words status

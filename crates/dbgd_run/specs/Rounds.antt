@@ -19,7 +19,7 @@ use Rattle.pass_runner.specs.SharedPass.{EndsShared, IsDoneShared, IsUnhinderedP
 use Rattle.pass_runner.specs.declared.pass_end.PassEnd.{PassEnd}
 use Rattle.dbgd_commands.specs.Endings.{Streams}
 use Rattle.dbgd_commands.specs.ScanSaid.{pass_saying}
-use Rattle.dbgd_commands.specs.Scene.{Setting}
+use Rattle.dbgd_commands.specs.Stage.{Setting}
 use Rattle.dbgd_run.specs.RoundSaid.{CountsPass, GrowsShare, TellsPass, added_by, err_told, is_cut, is_unmade}
 use Rattle.dbgd_run.specs.declared.line_fate.LineFate.{LineFate}
 use Rattle.dbgd_run.specs.declared.line_fate.LineFate.TheVariants.{Unmade}
@@ -28,28 +28,28 @@ use Rattle.dbgd_run.specs.declared.passes_end.PassesEnd.TheVariants.{Stopped, Ou
 
 -- what the passes go on with, at a moment: the log that the token has seen, the hands in order, the waits so far, where
 -- they are told, the two sinks, and the share of the counter table
-pub record PassingScene (T : Type 0) : Type 0 where
+pub record PassStage (T : Type 0) : Type 0 where
   pub log : List Change
   pub hands : List T
   pub woke : Option (List Waited)
   pub streams : Streams
   pub share : ShareFacts
 
--- the scene of these
-abbrev pub passing_scene : {T : Type 0} → List Change → List T → Option (List Waited) → Streams → ShareFacts → PassingScene T
-passing_scene log hands woke streams share =
+-- the stage of these
+abbrev pub pass_stage : {T : Type 0} → List Change → List T → Option (List Waited) → Streams → ShareFacts → PassStage T
+pass_stage log hands woke streams share =
     record { log = log; hands = hands; woke = woke; streams = streams; share = share }
 
--- one round: how its pass ended, what came of the line, and the scene behind it
+-- one round: how its pass ended, what came of the line, and the stage behind it
 pub record Round (T : Type 0) : Type 0 where
   pub end : PassEnd
   pub fate : LineFate
-  pub after : PassingScene T
+  pub after : PassStage T
 
 -- one pass over the roots was made with the hands over an index that others share, and ended so: what is said of its end,
 -- of the hands and of their faults, and where nothing stands against it
 pub record PassesShared {T : Type 0} (s : Setting T) (roots : List (List ℕ)) (end : PassEnd)
-    (before after : PassingScene T) : Type 0 where
+    (before after : PassStage T) : Type 0 where
   pub later : IsPrefix before.log after.log
   pub ends :
       HandsGo
@@ -73,14 +73,14 @@ pub record PassesShared {T : Type 0} (s : Setting T) (roots : List (List ℕ)) (
 
 -- the clock was waited for and said Again, and one pass was made, said and counted
 pub record IsRound {T : Type 0} (s : Setting T) (roots : List (List ℕ)) (secs : ℕ)
-    (before : PassingScene T) (round : Round T) : Type 0 where
+    (before : PassStage T) (round : Round T) : Type 0 where
   pub waits : Wakes before.woke secs Again round.after.woke
   pub passes : PassesShared s roots round.end before round.after
   pub tells : TellsPass round.end before.streams round.after.streams round.fate
   pub counts : CountsPass round.end before.share round.after.share
 
--- these rounds, each from the scene that the one before it left
-abbrev pub RoundsGo : {T : Type 0} → Setting T → List (List ℕ) → ℕ → PassingScene T → List (Round T) → PassingScene T → Type 0
+-- these rounds, each from the stage that the one before it left
+abbrev pub RoundsGo : {T : Type 0} → Setting T → List (List ℕ) → ℕ → PassStage T → List (Round T) → PassStage T → Type 0
 RoundsGo s roots secs before [] after = after ≡ before
 RoundsGo s roots secs before (round ∷ later) after =
     IsRound s roots secs before round × RoundsGo s roots secs round.after later after
@@ -94,7 +94,7 @@ abbrev pub is_any_unmade : {T : Type 0} → List (Round T) → Bool
 is_any_unmade rounds = list_any (λ round. is_unmade round.fate) rounds
 
 -- the clock was waited for once more and said Stop, and nothing else happened
-pub record StopsPassing {T : Type 0} (secs : ℕ) (before after : PassingScene T) : Type 0 where
+pub record StopsPassing {T : Type 0} (secs : ℕ) (before after : PassStage T) : Type 0 where
   pub waits : Wakes before.woke secs Stop after.woke
   pub rest : after ≡ record before { woke = after.woke }
 
@@ -108,7 +108,7 @@ pub record LacksLine {T : Type 0} (rounds : List (Round T)) : Type 0 where
 
 -- how the passing ended behind the last round: at a Stop of the clock, where all lines were said, or where one was refused;
 -- or at once, at a line that could not be made
-abbrev pub EndsPassing : {T : Type 0} → ℕ → List (Round T) → PassingScene T → PassesEnd → PassingScene T → Type 0
+abbrev pub EndsPassing : {T : Type 0} → ℕ → List (Round T) → PassStage T → PassesEnd → PassStage T → Type 0
 EndsPassing secs rounds last Stopped after =
     (is_any_cut rounds ≡ false) × (is_any_unmade rounds ≡ false) × StopsPassing secs last after
 EndsPassing secs rounds last OutFailed after =
@@ -142,9 +142,9 @@ pub record GetsLines (bytes : List ℕ) (before after : ShownStream) : Type 0 wh
 -- round; where it Stopped the standard output got exactly the lines of the whole passes, it failed only where that count
 -- rose; and the share counted exactly the whole passes
 pub record KeepsPassing {T : Type 0} (s : Setting T) (roots : List (List ℕ)) (secs : ℕ)
-    (before : PassingScene T) (end : PassesEnd) (after : PassingScene T) : Type 0 where
+    (before : PassStage T) (end : PassesEnd) (after : PassStage T) : Type 0 where
   pub rounds : List (Round T)
-  pub last : PassingScene T
+  pub last : PassStage T
   pub go : RoundsGo s roots secs before rounds last
   pub ends : EndsPassing secs rounds last end after
   pub waits : Gains before.woke (waits_by secs rounds end) after.woke

@@ -13,7 +13,7 @@ use Rattle.dbgd_commands.specs.Ident.{SaysIdent}
 use Rattle.dbgd_commands.specs.Query.{RunsQuery}
 use Rattle.dbgd_commands.specs.QueryCauses.{QueryEnds}
 use Rattle.dbgd_commands.specs.Scan.{RunsScan}
-use Rattle.dbgd_commands.specs.Scene.{ProgramScene, Setting}
+use Rattle.dbgd_commands.specs.Stage.{CommandStage, LeavesRest, ProgramStage, Setting}
 use Rattle.dbgd_commands.specs.Section.{SaysSection}
 use Rattle.dbgd_commands.specs.Sources.{SaysSources}
 use Rattle.dbgd_commands.specs.Statuses.{code_of}
@@ -26,21 +26,20 @@ use Rattle.dbgd_run.specs.Needs.{is_serve}
 use Rattle.dbgd_run.specs.Serve.{RunsServe, ServeWords, serve_words}
 use Rattle.dbgd_run.specs.ServeCauses.{ServeEnds}
 use Rattle.dbgd_run.specs.ServeComplete.{CompletesServe, IsFreeServe}
-use Rattle.dbgd_commands.specs.Stage.{LeavesRest, ProgramStage}
 
 -- of words that can't be read
 abbrev pub usage_saying : Saying
 usage_saying = error_saying usage_text Usage
 
 -- what is said without a look at the hands or the store
-pub record SaysAlone {T : Type 0} (saying : Saying) (before after : ProgramScene T)
+pub record SaysAlone {T : Type 0} (saying : Saying) (before after : CommandStage T)
     (status : Status) : Type 0 where
   pub says : EndsWhole saying before.streams after.streams status
   pub hands : after.hands ≡ before.hands
   pub store : after.store ≡ before.store
 
 -- a help or version: its text was said on the standard output, or memory was refused; hands and store weren't looked at
-pub record SaysHelp {T : Type 0} (before after : ProgramScene T) (status : Status) : Type 0 where
+pub record SaysHelp {T : Type 0} (before after : CommandStage T) (status : Status) : Type 0 where
   pub text : List ℕ
   pub says :
       EndsSaying (out_saying text Done) before.streams after.streams status
@@ -50,13 +49,13 @@ pub record SaysHelp {T : Type 0} (before after : ProgramScene T) (status : Statu
 
 -- a query: what it does, and how it ends when
 pub record IsQueryRun {T : Type 0} (s : Setting T) (path id : List ℕ)
-    (before after : ProgramScene T) (status : Status) : Type 0 where
+    (before after : CommandStage T) (status : Status) : Type 0 where
   pub does : RunsQuery s path id before after status
   pub ends : QueryEnds s before after status
 
 -- a scan: what it does, and how it ends when
 pub record IsScanRun {T : Type 0} (s : Setting T) (path : List ℕ) (workers : ℕ) (roots : List (List ℕ))
-    (before after : ProgramScene T) (status : Status) : Type 0 where
+    (before after : CommandStage T) (status : Status) : Type 0 where
   pub does : RunsScan s path workers roots before after status
   pub ends : ScanEnds s roots before after status
 
@@ -75,7 +74,7 @@ takes_threads (asks_trial seed files workers) = true
 takes_threads _ = false
 
 -- what a line of words does that asks for no server, by what it asks
-abbrev pub Runs : {T : Type 0} → Setting T → Line → ProgramScene T → ProgramScene T → Status → Type 0
+abbrev pub Runs : {T : Type 0} → Setting T → Line → CommandStage T → CommandStage T → Status → Type 0
 Runs s (asks_ident path) before after status =
     RunsFile s path (SaysIdent path) IsSomeWindow before after status
 Runs s (asks_sources path) before after status =
@@ -93,7 +92,7 @@ Runs s unreadable before after status = SaysAlone usage_saying before after stat
 -- a line that asks for no server, on all that there is: doors, links and clock are as they were
 pub record RunsApart {T : Type 0} (s : Setting T) (line : Line) (before after : ProgramStage T) (status : Status)
     : Type 0 where
-  pub runs : Runs s line before.scene after.scene status
+  pub runs : Runs s line before.command after.command status
   pub rest : LeavesRest before after
 
 -- what a line of words does, by what it asks
@@ -106,7 +105,7 @@ DoesLine s line before after status = RunsApart s line before after status
 pub record LacksRoom {T : Type 0} (words : List (List ℕ)) (before after : ProgramStage T)
     (status : Status) : Type 0 where
   pub options : IsTrue (has_options words)
-  pub alone : SaysAlone no_memory_saying before.scene after.scene status
+  pub alone : SaysAlone no_memory_saying before.command after.command status
   pub rest : LeavesRest before after
 
 -- what words do: as their line says, or there was no room for their options
@@ -116,29 +115,29 @@ DoesWords s words before after status =
 
 -- all that is promised of a run: the status and its number, what it does, a part for each command, and what its status
 -- says
-pub record IsRun {T : Type 0} (s : Setting T) (words : List (List ℕ)) (before after : ProgramStage T)
+pub record IsProgramRun {T : Type 0} (s : Setting T) (words : List (List ℕ)) (before after : ProgramStage T)
     (code : ℕ) : Type 0 where
   pub status : Status
   pub number : code ≡ code_of status
   pub ident : (path : List ℕ) → line_of words ≡ asks_ident path
-      → RunsFile s path (SaysIdent path) IsSomeWindow before.scene after.scene status
+      → RunsFile s path (SaysIdent path) IsSomeWindow before.command after.command status
   pub sources : (path : List ℕ) → line_of words ≡ asks_sources path
-      → RunsFile s path (SaysSources path) IsSomePart before.scene after.scene status
+      → RunsFile s path (SaysSources path) IsSomePart before.command after.command status
   pub section : (path name : List ℕ) → line_of words ≡ asks_section path name
-      → RunsFile s path (SaysSection path name) (IsSomeSection name) before.scene after.scene status
+      → RunsFile s path (SaysSection path name) (IsSomeSection name) before.command after.command status
   pub query : (path id : List ℕ) → line_of words ≡ asks_query path id
-      → IsQueryRun s path id before.scene after.scene status
+      → IsQueryRun s path id before.command after.command status
   pub scan : (path : List ℕ) (workers : ℕ) (roots : List (List ℕ))
       → line_of words ≡ asks_scan path workers roots
-      → IsScanRun s path workers roots before.scene after.scene status
+      → IsScanRun s path workers roots before.command after.command status
   pub trial : (seed files workers : ℕ) → line_of words ≡ asks_trial seed files workers
-      → RunsTrial seed files before.scene after.scene status
-  pub help : line_of words ≡ asks_help → SaysHelp before.scene after.scene status
+      → RunsTrial seed files before.command after.command status
+  pub help : line_of words ≡ asks_help → SaysHelp before.command after.command status
   pub serve : (path : List ℕ) (workers port secs : ℕ) (sources : List (List ℕ)) (upstream : List ServerFacts)
       (roots : List (List ℕ))
       → line_of words ≡ asks_serve path workers port secs sources upstream roots
       → IsServeRun s (serve_words path workers port secs sources upstream roots) before after status
   pub usage : line_of words ≡ unreadable
-      → SaysAlone usage_saying before.scene after.scene status ⊎ LacksRoom words before after status
+      → SaysAlone usage_saying before.command after.command status ⊎ LacksRoom words before after status
   pub causes : HasStatus s words (line_of words) before after status
   pub rest : is_serve (line_of words) ≡ false → LeavesRest before after

@@ -22,14 +22,13 @@ use Rattle.dbgd_commands.specs.Endings.{EndsCut, EndsWhole, Gets, Streams, SaysM
 use Rattle.dbgd_commands.specs.Kept.{HasRows, MayHaveRows, StoreHoldsRows}
 use Rattle.dbgd_commands.specs.Scan.{Scans}
 use Rattle.dbgd_commands.specs.ScanSaid.{refusal_saying}
-use Rattle.dbgd_commands.specs.Scene.{Setting}
+use Rattle.dbgd_commands.specs.Stage.{LeavesRest, ProgramStage, Setting}
 use Rattle.dbgd_commands.specs.declared.scan_end.ScanEnd.TheVariants.{Refused}
 use Rattle.dbgd_commands.specs.declared.status.Status.{Status}
 use Rattle.dbgd_commands.specs.declared.status.Status.TheVariants.{Done}
 use Rattle.dbgd_run.specs.RoundSaid.{CountsPass, TellsPass}
-use Rattle.dbgd_run.specs.Rounds.{KeepsPassing, PassesShared, PassingScene, Round, passing_scene}
+use Rattle.dbgd_run.specs.Rounds.{KeepsPassing, PassesShared, PassStage, Round, pass_stage}
 use Rattle.dbgd_run.specs.ServeSaid.{door_lines, has_cut, is_any_failed, served_status, serving_saying, wants_line}
-use Rattle.dbgd_commands.specs.Stage.{LeavesRest, ProgramStage}
 use Rattle.dbgd_run.specs.Workers.{AreWorkers, IsFreshShare, ServedBy, WorkerFacts}
 use Rattle.dbgd_run.specs.declared.line_fate.LineFate.TheVariants.{Unmade}
 use Rattle.dbgd_run.specs.declared.passes_end.PassesEnd.{PassesEnd}
@@ -57,20 +56,20 @@ serve_words path workers port secs sources upstream roots = record {
 }
 
 -- what stays while doors are served: what a run rests on, the folders of sources, and how many rows the counter table has
-abbrev pub doors_scene : {T : Type 0} → Setting T → List (List ℕ) → ℕ → ConnSetting T
-doors_scene s folders rows = conn_setting s.world.true_row s.tells_files s.world.version s.sees folders rows
+abbrev pub doors_setting : {T : Type 0} → Setting T → List (List ℕ) → ℕ → ConnSetting T
+doors_setting s folders rows = conn_setting s.world.true_row s.tells_files s.world.version s.sees folders rows
 
 -- that of a server: sources come from the folders that are scanned and from those for sources alone, and the counter table has
 -- a row for each worker and one for the passes
-abbrev pub served_scene : {T : Type 0} → Setting T → ServeWords → ConnSetting T
-served_scene s words = doors_scene s (words.roots ++ words.sources) (words.workers + 1)
+abbrev pub served_setting : {T : Type 0} → Setting T → ServeWords → ConnSetting T
+served_setting s words = doors_setting s (words.roots ++ words.sources) (words.workers + 1)
 
 -- no index was opened on the store, which is said as a scan says it; no door, no link and no wait was asked for
 pub record IsUnopened {T : Type 0} (s : Setting T) (words : ServeWords) (before after : ProgramStage T) (fault : OpenFault)
     (status : Status) : Type 0 where
   pub scans :
-      Scans s words.path words.roots before.scene.hands after.scene.hands before.scene.store after.scene.store (Refused fault)
-  pub said : EndsWhole (refusal_saying fault) before.scene.streams after.scene.streams status
+      Scans s words.path words.roots before.command.hands after.command.hands before.command.store after.command.store (Refused fault)
+  pub said : EndsWhole (refusal_saying fault) before.command.streams after.command.streams status
   pub rest : LeavesRest before after
 
 -- the store was opened once, by the path, and had its keeper back; its count rose where the index that was opened on it broke
@@ -95,12 +94,12 @@ SaysUnserved words old new status =
 pub record IsUnserved {T : Type 0} (s : Setting T) (words : ServeWords) (before after : ProgramStage T) (status : Status)
     : Type 0 where
   pub found : List RowFacts
-  pub held : StoreHoldsRows s.tells_tables before.scene.store found
-  pub has : HasRows s.tells_tables after.scene.store (current found)
-  pub made : after.scene.store.made ≡ made_swept found before.scene.store.made
-  pub store : StoreServes words.path false before.scene.store after.scene.store
-  pub hands : after.scene.hands ≡ before.scene.hands
-  pub said : SaysUnserved words before.scene.streams after.scene.streams status
+  pub held : StoreHoldsRows s.tells_tables before.command.store found
+  pub has : HasRows s.tells_tables after.command.store (current found)
+  pub made : after.command.store.made ≡ made_swept found before.command.store.made
+  pub store : StoreServes words.path false before.command.store after.command.store
+  pub hands : after.command.hands ≡ before.command.hands
+  pub said : SaysUnserved words before.command.streams after.command.streams status
   pub rest : LeavesRest before after
 
 -- the log that the index has in the end, and what the store has then: first the puts of the rows of the edition that it held, by
@@ -119,7 +118,7 @@ pub record HasServedLog (true_row : RowFacts → Type 0) (told : Bool) (found : 
   pub may_have : broken ≡ true → MayHaveRows true_row told new rows
 
 -- one pass was made, said and counted, without a wait
-pub record MakesRound {T : Type 0} (s : Setting T) (roots : List (List ℕ)) (before : PassingScene T) (round : Round T)
+pub record MakesRound {T : Type 0} (s : Setting T) (roots : List (List ℕ)) (before : PassStage T) (round : Round T)
     : Type 0 where
   pub passes : PassesShared s roots round.end before round.after
   pub tells : TellsPass round.end before.streams round.after.streams round.fate
@@ -128,7 +127,7 @@ pub record MakesRound {T : Type 0} (s : Setting T) (roots : List (List ℕ)) (be
 
 -- the passes behind the first one: none where no time between them is given, or where the line of the first one could not be
 -- made; else those of the clock
-abbrev pub PassesOn : {T : Type 0} → Setting T → List (List ℕ) → ℕ → Round T → Option PassesEnd → PassingScene T → Type 0
+abbrev pub PassesOn : {T : Type 0} → Setting T → List (List ℕ) → ℕ → Round T → Option PassesEnd → PassStage T → Type 0
 PassesOn s roots secs first None after = ((secs ≡ 0) ⊎ (first.fate ≡ Unmade)) × (after ≡ first.after)
 PassesOn s roots secs first (Some end) after = (0 < secs) × KeepsPassing s roots secs first.after end after
 
@@ -138,17 +137,17 @@ PassesOn s roots secs first (Some end) after = (0 < secs) × KeepsPassing s root
 -- token that had seen that log; the passes behind the first one go on from it; and all of them ended at beginnings of the log that the index has in the end. The passes and
 -- the workers count in one table, which has a row for each of them. The lines of the doors that failed stand behind all others:
 -- all of them, or a proper part, where the count rose
-pub record IsServed {T : Type 0} (s : Setting T) (words : ServeWords) (before after : ProgramStage T) (status : Status)
+pub record HasServed {T : Type 0} (s : Setting T) (words : ServeWords) (before after : ProgramStage T) (status : Status)
     : Type 0 where
   pub found : List RowFacts
-  pub held : StoreHoldsRows s.tells_tables before.scene.store found
+  pub held : StoreHoldsRows s.tells_tables before.command.store found
   pub broken : Bool
   pub log : List Change
   pub logs :
-      HasServedLog s.world.true_row s.tells_tables found before.scene.store after.scene.store broken log
-  pub store : StoreServes words.path broken before.scene.store after.scene.store
+      HasServedLog s.world.true_row s.tells_tables found before.command.store after.command.store broken log
+  pub store : StoreServes words.path broken before.command.store after.command.store
   pub told : Streams
-  pub line : EndsWhole (serving_saying words.port words.workers) before.scene.streams told Done
+  pub line : EndsWhole (serving_saying words.port words.workers) before.command.streams told Done
   pub book : BookFacts
   pub sized : book.rows ≡ words.workers + 1
   pub share : ShareFacts
@@ -156,29 +155,29 @@ pub record IsServed {T : Type 0} (s : Setting T) (words : ServeWords) (before af
   pub first : Round T
   pub made :
       MakesRound s words.roots
-      (passing_scene (puts_of (current found)) (take (words.workers + 2) before.scene.hands) before.woke told share) first
+      (pass_stage (puts_of (current found)) (take (words.workers + 2) before.command.hands) before.woke told share) first
   pub passed : IsPrefix first.after.log log
   pub workers : List (WorkerFacts T)
   pub workers_are :
-      AreWorkers (take words.workers (drop (words.workers + 2) before.scene.hands)) before.doors
+      AreWorkers (take words.workers (drop (words.workers + 2) before.command.hands)) before.doors
       (take words.workers before.links) workers
   pub shares : All (λ worker. IsFreshShare book worker.share) workers
   pub linked : All (λ worker. length worker.links ≡ length words.upstream) workers
   pub left : List (WorkerFacts T)
   pub left_are :
-      AreWorkers (take words.workers (drop (words.workers + 2) after.scene.hands)) after.doors
+      AreWorkers (take words.workers (drop (words.workers + 2) after.command.hands)) after.doors
       (take words.workers after.links) left
-  pub doors : AllZip (ServedBy (served_scene s words) first.after.log log) workers left
+  pub doors : AllZip (ServedBy (served_setting s words) first.after.log log) workers left
   pub how : Option PassesEnd
-  pub last : PassingScene T
+  pub last : PassStage T
   pub passes : PassesOn s words.roots words.secs first how last
   pub within : IsPrefix last.log log
-  pub hands : take (words.workers + 2) after.scene.hands ≡ last.hands
-  pub others : drop (words.workers * 2 + 2) after.scene.hands ≡ drop (words.workers * 2 + 2) before.scene.hands
+  pub hands : take (words.workers + 2) after.command.hands ≡ last.hands
+  pub others : drop (words.workers * 2 + 2) after.command.hands ≡ drop (words.workers * 2 + 2) before.command.hands
   pub other_links : drop words.workers after.links ≡ drop words.workers before.links
   pub woke : after.woke ≡ last.woke
-  pub out : after.scene.streams.out ≡ last.streams.out
-  pub err : Gets (door_lines after.doors) last.streams.err after.scene.streams.err
+  pub out : after.command.streams.out ≡ last.streams.out
+  pub err : Gets (door_lines after.doors) last.streams.err after.command.streams.err
   pub ends :
       status
       ≡ served_status (wants_line first.fate how)
@@ -189,4 +188,4 @@ pub data RunsServe {T : Type 0} (s : Setting T) (words : ServeWords) (before aft
     : Type 0 where
   unopened : (fault : OpenFault) → IsUnopened s words before after fault status → RunsServe s words before after status
   unserved : IsUnserved s words before after status → RunsServe s words before after status
-  served : IsServed s words before after status → RunsServe s words before after status
+  served : HasServed s words before after status → RunsServe s words before after status

@@ -9,26 +9,25 @@ use Rattle.tree_walk.specs.declared.fault.WalkFault.TheVariants as stop
 use Rattle.pass_runner.specs.declared.pass_end.PassEnd.{PassEnd}
 use Rattle.pass_runner.specs.declared.pass_end.PassEnd.TheVariants as pass
 use Rattle.dbgd_commands.specs.CommandCauses.{IsFreeHand}
-use Rattle.dbgd_commands.specs.Scene.{OfFirst, Setting}
+use Rattle.dbgd_commands.specs.Stage.{OfFirst, ProgramStage, Setting}
 use Rattle.dbgd_commands.specs.declared.status.Status.{Status}
 use Rattle.dbgd_commands.specs.declared.status.Status.TheVariants.{OutOfMemory}
 use Rattle.dbgd_run.specs.Rounds.{Round}
 use Rattle.dbgd_run.specs.Serve.{RunsServe, ServeWords, served, unopened, unserved}
 use Rattle.dbgd_run.specs.ServeCauses.{rounds_behind}
-use Rattle.dbgd_commands.specs.Stage.{ProgramStage}
 use Rattle.dbgd_run.specs.declared.line_fate.LineFate.{LineFate}
 use Rattle.dbgd_run.specs.declared.line_fate.LineFate.TheVariants.{Written, Unmade}
 
 -- nothing stands against the passes of a server: so it is of the first hand, the store tells that each of its values is a
 -- row, not too many of them of the edition, and neither the store's count nor that of the standard output rose
 pub record IsFreeServe {T : Type 0} (s : Setting T) (roots : List (List ℕ)) (before after : ProgramStage T) : Type 0 where
-  pub hand : OfFirst s (IsFreeHand s.tells_files roots) before.scene.hands after.scene.hands
+  pub hand : OfFirst s (IsFreeHand s.tells_files roots) before.command.hands after.command.hands
   pub tells : IsTrue s.tells_tables
   pub rows : List RowFacts
-  pub held : AreRows rows before.scene.store.tables
+  pub held : AreRows rows before.command.store.tables
   pub few : length (current rows) ≤ LOG_LIMIT
-  pub store : ¬ Rose before.scene.store.faults after.scene.store.faults
-  pub out : ¬ Rose before.scene.streams.out.write_faults after.scene.streams.out.write_faults
+  pub store : ¬ Rose before.command.store.faults after.command.store.faults
+  pub out : ¬ Rose before.command.streams.out.write_faults after.command.streams.out.write_faults
 
 -- the pass was whole and its line was written; or memory was refused, for that line or for the pass
 abbrev pub WritesPassLine : PassEnd → LineFate → Type 0

@@ -17,7 +17,7 @@ use Rattle.conn_server.specs.Stage.{ConnSetting, conn_stage}
 use Rattle.conn_server.specs.declared.door.DoorEnd.{DoorEnd}
 use Rattle.conn_server.specs.declared.reason.Reason.{Reason}
 use Rattle.conn_server.specs.declared.reason.Reason.TheVariants as reason
-use Rattle.dbgd_run.specs.declared.places.DoorPlace.{DoorPlace}
+use Rattle.dbgd_run.specs.declared.worker.Worker.{Worker}
 
 -- a worker at a moment: its hand, its share of the counter table, and what its door and each of its links show
 pub record WorkerFacts (T : Type 0) : Type 0 where
@@ -63,66 +63,66 @@ pub record IsServedBetween (first last : List Change) (x : Exchange) : Type 0 wh
   pub most : IsTrue (rests_on_index x.served.reason) → x.served.gen_ ≤ length last
 
 -- a worker's door was served once, by a token that had seen the first log and then the second one, with its origin's epoch
-pub record ServesOnce {T : Type 0} (scene : ConnSetting T) (first : List Change) (before : WorkerFacts T) (log : List Change)
+pub record ServesOnce {T : Type 0} (setting : ConnSetting T) (first : List Change) (before : WorkerFacts T) (log : List Change)
     (after : WorkerFacts T) : Type 0 where
   pub end : DoorEnd
   pub epoch : ℕ
   pub epoch_after : ℕ
   pub serves :
-      ServesDoor scene (conn_stage first epoch before.hand before.share before.links) before.door end
+      ServesDoor setting (conn_stage first epoch before.hand before.share before.links) before.door end
       (conn_stage log epoch_after after.hand after.share after.links) after.door
 
 -- a worker's door was served once, at beginnings of the last log, and each of its requests at one that goes on from the first
-pub record ServedBy {T : Type 0} (scene : ConnSetting T) (first last : List Change) (before after : WorkerFacts T) : Type 0 where
+pub record ServedBy {T : Type 0} (setting : ConnSetting T) (first last : List Change) (before after : WorkerFacts T) : Type 0 where
   pub log : List Change
   pub into : IsPrefix log last
-  pub ran : ServesOnce scene first before log after
+  pub ran : ServesOnce setting first before log after
   pub between : All (IsServedBetween first last) (all_exchanges ran.serves.serves.visits)
 
--- the worker of a place
-abbrev pub worker_in : {T D L : Type 0} → (D → ShownDoor) → (L → ShownLink) → DoorPlace T D L → WorkerFacts T
-worker_in sees views place =
-    record { hand = place.hand; share = place.share; door = sees place.door; links = map views place.links.items }
+-- what is known of a worker
+abbrev pub worker_in : {T D L : Type 0} → (D → ShownDoor) → (L → ShownLink) → Worker T D L → WorkerFacts T
+worker_in sees views worker =
+    record { hand = worker.hand; share = worker.share; door = sees worker.door; links = map views worker.links.items }
 
--- what a run makes of a place: its door was served once, and how that ended is kept
-pub record PlaceRan
-    {T D L : Type 0} (scene : ConnSetting T) (sees : D → ShownDoor) (views : L → ShownLink) (first : List Change)
-    (before : DoorPlace T D L) (log : List Change) (after : DoorPlace T D L) : Type 0 where
-  pub ran : ServesOnce scene first (worker_in sees views before) log (worker_in sees views after)
+-- what a run makes of a worker: its door was served once, and how that ended is kept
+pub record WorkerRan
+    {T D L : Type 0} (setting : ConnSetting T) (sees : D → ShownDoor) (views : L → ShownLink) (first : List Change)
+    (before : Worker T D L) (log : List Change) (after : Worker T D L) : Type 0 where
+  pub ran : ServesOnce setting first (worker_in sees views before) log (worker_in sees views after)
   pub kept : after.end ≡ Some ran.end
 
 -- the same between two moments of the token
-abbrev pub RunsPlace : {T D L : Type 0} → ConnSetting T → (D → ShownDoor) → (L → ShownLink) → SeatFacts Change Origin → DoorPlace T D L
-    → SeatFacts Change Origin → DoorPlace T D L → Type 0
-RunsPlace scene sees views start before later after = PlaceRan scene sees views start.seen before later.seen after
+abbrev pub RunsWorker : {T D L : Type 0} → ConnSetting T → (D → ShownDoor) → (L → ShownLink) → SeatFacts Change Origin → Worker T D L
+    → SeatFacts Change Origin → Worker T D L → Type 0
+RunsWorker setting sees views start before later after = WorkerRan setting sees views start.seen before later.seen after
 
--- the same of a place, at beginnings of the last log
-pub record PlaceServed
-    {T D L : Type 0} (scene : ConnSetting T) (sees : D → ShownDoor) (views : L → ShownLink) (first last : List Change)
-    (before after : DoorPlace T D L) : Type 0 where
-  pub by : ServedBy scene first last (worker_in sees views before) (worker_in sees views after)
+-- the same, at beginnings of the last log
+pub record WorkerServed
+    {T D L : Type 0} (setting : ConnSetting T) (sees : D → ShownDoor) (views : L → ShownLink) (first last : List Change)
+    (before after : Worker T D L) : Type 0 where
+  pub by : ServedBy setting first last (worker_in sees views before) (worker_in sees views after)
   pub kept : after.end ≡ Some by.ran.end
 
--- the hands of places, in order
-abbrev pub hands_at : {T D L : Type 0} → List (DoorPlace T D L) → List T
-hands_at places = map (λ place. place.hand) places
+-- the hands of workers, in order
+abbrev pub hands_at : {T D L : Type 0} → List (Worker T D L) → List T
+hands_at workers = map (λ worker. worker.hand) workers
 
 -- their doors
-abbrev pub doors_at : {T D L : Type 0} → List (DoorPlace T D L) → List D
-doors_at places = map (λ place. place.door) places
+abbrev pub doors_at : {T D L : Type 0} → List (Worker T D L) → List D
+doors_at workers = map (λ worker. worker.door) workers
 
 -- their rows of links
-abbrev pub links_at : {T D L : Type 0} → List (DoorPlace T D L) → List (Vec L)
-links_at places = map (λ place. place.links) places
+abbrev pub links_at : {T D L : Type 0} → List (Worker T D L) → List (Vec L)
+links_at workers = map (λ worker. worker.links) workers
 
 -- their shares
-abbrev pub shares_at : {T D L : Type 0} → List (DoorPlace T D L) → List ShareFacts
-shares_at places = map (λ place. place.share) places
+abbrev pub shares_at : {T D L : Type 0} → List (Worker T D L) → List ShareFacts
+shares_at workers = map (λ worker. worker.share) workers
 
 -- their ends, where their doors were served
-abbrev pub ends_at : {T D L : Type 0} → List (DoorPlace T D L) → List (Option DoorEnd)
-ends_at places = map (λ place. place.end) places
+abbrev pub ends_at : {T D L : Type 0} → List (Worker T D L) → List (Option DoorEnd)
+ends_at workers = map (λ worker. worker.end) workers
 
--- the workers of places
-abbrev pub workers_at : {T D L : Type 0} → (D → ShownDoor) → (L → ShownLink) → List (DoorPlace T D L) → List (WorkerFacts T)
-workers_at sees views places = map (λ place. worker_in sees views place) places
+-- what is known of workers
+abbrev pub workers_at : {T D L : Type 0} → (D → ShownDoor) → (L → ShownLink) → List (Worker T D L) → List (WorkerFacts T)
+workers_at sees views workers = map (λ worker. worker_in sees views worker) workers

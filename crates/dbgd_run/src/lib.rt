@@ -3,28 +3,25 @@
 #![tactic(auto)]
 
 mod beside;
+mod crew;
 mod demands;
 mod door_crew;
 mod first_pass;
-mod gear;
-mod geared;
-mod hall;
-mod lent_crew;
 mod line_fate;
 mod outside;
 mod passes_end;
-mod places;
-mod posts;
 mod rounds;
-mod rules;
 mod serve;
 mod serve_end;
 mod serve_said;
 mod server;
 mod serving;
+mod settings;
 mod shares;
 mod site;
+mod threads;
 mod wants;
+mod worker;
 
 pub use dbgd_commands::{Handed, Kinds, Of, Outside, ScanEnd, Staged, Status, say_end};
 pub use demands::needs;

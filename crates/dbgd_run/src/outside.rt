@@ -7,12 +7,11 @@ ghost use Rattle.dbgd_words.specs.Limits.{FitsLimits};
 ghost use Rattle.dbgd_words.specs.Lines.{asked_by};
 ghost use Rattle.dbgd_words.specs.Words.{line_of};
 ghost use Rattle.dbgd_commands.specs.Endings.{EndsWhole, streams};
-ghost use Rattle.dbgd_commands.specs.Scene.{scene, setting};
+ghost use Rattle.dbgd_commands.specs.Stage.{command_stage, rows_shown, setting, stage};
 ghost use Rattle.dbgd_commands.specs.Statuses.{code_of};
 ghost use Rattle.dbgd_commands.specs.declared.status.Status.TheVariants.{OutOfMemory};
 ghost use Rattle.dbgd_run.specs.Needs.{HasEnough, HasHand};
-ghost use Rattle.dbgd_run.specs.Runs.{DoesLine, DoesWords, IsRun, Runs, takes_threads, usage_saying};
-ghost use Rattle.dbgd_commands.specs.Stage.{rows_shown, stage};
+ghost use Rattle.dbgd_run.specs.Runs.{DoesLine, DoesWords, IsProgramRun, Runs, takes_threads, usage_saying};
 
 use crate::serve::{ServeLine, run_serve};
 use dbgd_commands::{
@@ -51,8 +50,8 @@ fn run_alone<X: Kinds>(alloc: Global, line: Line<'_>, outside: &mut Handed<X>) -
     ensures law { Runs
         ⟦<Handed<X> as Staged>⟧.setting
         (asked_by line.entry)
-        (⟦<Handed<X> as Staged>⟧.stage outside.old).scene
-        (⟦<Handed<X> as Staged>⟧.stage outside.new).scene result }
+        (⟦<Handed<X> as Staged>⟧.stage outside.old).command
+        (⟦<Handed<X> as Staged>⟧.stage outside.new).command result }
     ensures hands { vec_len outside.new.hands ≡ vec_len outside.old.hands }
     ensures others { drop 1 outside.new.hands.items ≡ drop 1 outside.old.hands.items }
     ensures rest { (outside.new.doors ≡ outside.old.doors) × (outside.new.links ≡ outside.old.links)
@@ -120,7 +119,7 @@ fn run_line<X: Kinds, Rt: Threads + Wait + Sync>(
             port,
             secs,
             sources,
-            upstream,
+            upstream: _,
             roots,
         } => {
             let line = ServeLine {
@@ -128,9 +127,7 @@ fn run_line<X: Kinds, Rt: Threads + Wait + Sync>(
                 workers,
                 port,
                 secs,
-                sources,
-                upstream,
-                roots,
+                folders: (roots, sources),
             };
             run_serve::<X, Rt>(rt, alloc, line, outside)
         }
@@ -185,14 +182,14 @@ pub fn run_local<
     ensures some { IfSome result (λ code. (takes_threads (line_of (map string_bytes words.now)) ≡ false)
         ⊎ (code ≡ code_of OutOfMemory)) }
     ensures idle { IfNone result (outside.new ≡ outside.old) }
-    ensures run { IfSome result (IsRun
+    ensures run { IfSome result (IsProgramRun
         (setting (rules W.version W.true_row W.told) T.told T.shows S.K.told)
         (map string_bytes words.now)
-        (stage (scene outside.old.hands.items (S.shows outside.old.store)
+        (stage (command_stage outside.old.hands.items (S.shows outside.old.store)
         (streams O.shows outside.old.out outside.old.err))
         (map D.shows outside.old.doors.items) (rows_shown L.shows outside.old.links.items)
         (C.woke outside.old.clock))
-        (stage (scene outside.new.hands.items (S.shows outside.new.store)
+        (stage (command_stage outside.new.hands.items (S.shows outside.new.store)
         (streams O.shows outside.new.out outside.new.err))
         (map D.shows outside.new.doors.items) (rows_shown L.shows outside.new.links.items)
         (C.woke outside.new.clock))) }
@@ -223,13 +220,13 @@ pub fn run<
     requires hand { HasHand (line_of (map string_bytes words.now)) (vec_len outside.old.hands) }
     requires enough { HasEnough (line_of (map string_bytes words.now))
         (vec_len outside.old.hands) (vec_len outside.old.doors) outside.old.links.items }
-    ensures run { IsRun (setting (rules W.version W.true_row W.told) T.told T.shows S.K.told)
+    ensures run { IsProgramRun (setting (rules W.version W.true_row W.told) T.told T.shows S.K.told)
         (map string_bytes words.now)
-        (stage (scene outside.old.hands.items (S.shows outside.old.store)
+        (stage (command_stage outside.old.hands.items (S.shows outside.old.store)
         (streams O.shows outside.old.out outside.old.err))
         (map D.shows outside.old.doors.items) (rows_shown L.shows outside.old.links.items)
         (C.woke outside.old.clock))
-        (stage (scene outside.new.hands.items (S.shows outside.new.store)
+        (stage (command_stage outside.new.hands.items (S.shows outside.new.store)
         (streams O.shows outside.new.out outside.new.err))
         (map D.shows outside.new.doors.items) (rows_shown L.shows outside.new.links.items)
         (C.woke outside.new.clock)) result }

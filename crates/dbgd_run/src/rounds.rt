@@ -4,9 +4,9 @@ ghost use Rattle.std.specs.Prelude.{◌≡◌, ◌<◌, vec_len, None, IsSome};
 ghost use Rattle.row_types.specs.Rules.{rules};
 ghost use Rattle.index_lock.specs.Tokens.{IsLater};
 ghost use Rattle.dbgd_commands.specs.Endings.{streams};
-ghost use Rattle.dbgd_commands.specs.Scene.{setting};
+ghost use Rattle.dbgd_commands.specs.Stage.{setting};
 ghost use Rattle.dbgd_run.specs.RoundSaid.{CountsPass, TellsPass};
-ghost use Rattle.dbgd_run.specs.Rounds.{KeepsPassing, passing_scene, stopped_by};
+ghost use Rattle.dbgd_run.specs.Rounds.{KeepsPassing, pass_stage, stopped_by};
 
 use crate::line_fate::{LineFate, tell_pass};
 use crate::passes_end::PassesEnd;
@@ -118,9 +118,9 @@ pub fn keep_passing<
     ensures later { IsLater seat result.0 }
     ensures passes { KeepsPassing
         (setting (rules W.version W.true_row W.told) T.told T.shows K.told) roots.now secs
-        (passing_scene seat.seen hands.items (C.woke clock.old)
+        (pass_stage seat.seen hands.items (C.woke clock.old)
         (streams O.shows out.old err.old) share.old) result.2
-        (passing_scene result.0.seen result.1.items (C.woke clock.new)
+        (pass_stage result.0.seen result.1.items (C.woke clock.new)
         (streams O.shows out.new err.new) share.new) }
     ensures count { vec_len result.1 ≡ vec_len hands }
     ensures same { (share.new.book ≡ share.old.book) × (share.new.row ≡ share.old.row) }

@@ -11,8 +11,8 @@ ghost use Rattle.dbgd_run.specs.Workers.{ends_at};
 
 use crate::line_fate::LineFate;
 use crate::passes_end::PassesEnd;
-use crate::places::DoorPlace;
 use crate::serve_end::ServeEnd;
+use crate::worker::Worker;
 use conn_server::DoorEnd;
 use dbgd_commands::{Status, push_count, say, say_no_memory, say_refusal, write_line};
 use http_wire::{Sink, WriteFault};
@@ -76,36 +76,36 @@ fn either(one: bool, other: bool) -> bool
 }
 
 /// Whether some door failed.
-fn is_any_bad<T: Drop, D: Drop, L: Drop>(places: &[DoorPlace<T, D, L>]) -> bool
-    ensures { result ≡ list_any ended_badly (ends_at places.now) }
+fn is_any_bad<T: Drop, D: Drop, L: Drop>(workers: &[Worker<T, D, L>]) -> bool
+    ensures { result ≡ list_any ended_badly (ends_at workers.now) }
 {
     let mut failed = false;
-    for place in places {
-        failed = either(failed, ended_badly(place.end));
+    for worker in workers {
+        failed = either(failed, ended_badly(worker.end));
     }
     failed
 }
 
 /// Writes a line for each door that failed, in order. A write that fails ends that.
 fn write_doors<T: Drop, D: Drop, L: Drop, O: Sink>(
-    places: &[DoorPlace<T, D, L>],
+    workers: &[Worker<T, D, L>],
     err: &mut O,
 ) -> Result<(), WriteFault>
     ensures { MatchResult result
-        (λ _. GetsAll (flat_map end_line (ends_at places.now)) (O.shows err.old) (O.shows err.new))
-        (λ _. GetsPart (flat_map end_line (ends_at places.now)) (O.shows err.old) (O.shows err.new)) }
+        (λ _. GetsAll (flat_map end_line (ends_at workers.now)) (O.shows err.old) (O.shows err.new))
+        (λ _. GetsPart (flat_map end_line (ends_at workers.now)) (O.shows err.old) (O.shows err.new)) }
 {
-    for place in places {
-        say_door(place.end, err)?;
+    for worker in workers {
+        say_door(worker.end, err)?;
     }
     Ok(())
 }
 
 /// Says of each door that failed, in order. A write that fails changes nothing else.
-fn say_doors<T: Drop, D: Drop, L: Drop, O: Sink>(places: &[DoorPlace<T, D, L>], err: &mut O)
-    ensures { Gets (flat_map end_line (ends_at places.now)) (O.shows err.old) (O.shows err.new) }
+fn say_doors<T: Drop, D: Drop, L: Drop, O: Sink>(workers: &[Worker<T, D, L>], err: &mut O)
+    ensures { Gets (flat_map end_line (ends_at workers.now)) (O.shows err.old) (O.shows err.new) }
 {
-    let _ = write_doors(places, err);
+    let _ = write_doors(workers, err);
 }
 
 /// Whether memory was refused for the line of a pass.
@@ -146,11 +146,11 @@ fn served_status(wants: bool, failed: bool) -> Status
 /// Says how a server ended: of each door that failed a line, in order, and the status.
 pub(crate) fn say_serve_end<T: Drop, D: Drop, L: Drop, O: Sink>(
     end: &ServeEnd,
-    places: &[DoorPlace<T, D, L>],
+    workers: &[Worker<T, D, L>],
     out: &mut O,
     err: &mut O,
 ) -> Status
-    ensures { SaysServeEnd end.now (ends_at places.now)
+    ensures { SaysServeEnd end.now (ends_at workers.now)
         (streams O.shows out.old err.old) (streams O.shows out.new err.new) result }
 {
     match end {
@@ -158,8 +158,8 @@ pub(crate) fn say_serve_end<T: Drop, D: Drop, L: Drop, O: Sink>(
         ServeEnd::Unannounced => Status::Fault,
         ServeEnd::Unlocked => say_no_memory(out, err),
         ServeEnd::Served { fate, how, broken } => {
-            say_doors(places, err);
-            let failed = either(is_any_bad(places), *broken);
+            say_doors(workers, err);
+            let failed = either(is_any_bad(workers), *broken);
             served_status(
                 wants_line(*fate, *how),
                 either(has_cut(*fate, *how), failed),

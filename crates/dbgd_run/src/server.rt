@@ -1,130 +1,122 @@
 //! The doors of a server over one lock, with passes beside them where there are any.
 
-ghost use Rattle.std.specs.Prelude.{◌≡◌, ◌<◌, ◌≤◌, All, None, vec_len};
+ghost use Rattle.std.specs.Prelude.{◌≡◌, vec_len};
 ghost use Rattle.std.specs.List.{AllZip};
 ghost use mathlib.Core.List.{IsPrefix};
 ghost use Rattle.index_lock.specs.Tokens.{IsLater};
-ghost use Rattle.conn_server.specs.Tallied.{HasRowIn};
 ghost use Rattle.dbgd_commands.specs.Endings.{streams};
-ghost use Rattle.dbgd_run.specs.Rounds.{KeepsPassing, passing_scene};
-ghost use Rattle.dbgd_run.specs.Serving.{GoesOn, crew_of};
-ghost use Rattle.dbgd_run.specs.Workers.{PlaceServed};
+ghost use Rattle.dbgd_run.specs.Rounds.{KeepsPassing, pass_stage};
+ghost use Rattle.dbgd_run.specs.Serving.{GoesOn, serve_stage};
+ghost use Rattle.dbgd_run.specs.Workers.{WorkerServed};
 
 use crate::beside::run_beside;
+use crate::crew::Workers;
 use crate::door_crew::run_doors;
-use crate::hall::{HallOf, Lead, LeadOf};
 use crate::passes_end::PassesEnd;
-use crate::places::PlaceOf;
-use crate::posts::Posts;
-use crate::rules::Serves;
+use crate::settings::ServeSettings;
+use crate::site::SiteOf;
+use crate::threads::{PassLead, PassLeadOf, PassTools, PassToolsOf, SentOf, ThreadSite};
+use crate::worker::WorkerOf;
 use dbgd_commands::{Handed, Kinds, Staged};
 use lock_crew::{seats_in, seats_out};
 use std::sync::Wait;
 use std::thread::Threads;
 
-/// Has the doors of the places served, and makes one token of all.
+/// Has the doors of the workers served, and makes one token of all.
 fn serve_alone<X: Kinds, Rt: Threads + Wait + Sync>(
-    hall: &HallOf<'_, X, Rt>,
-    lead: LeadOf<X>,
-    posts: Posts<X>,
-) -> (LeadOf<X>, Vec<PlaceOf<X>>)
-    requires lock { lead.seat.lock ≡ hall.now.lock.now }
-    requires shares { All (λ place. HasRowIn hall.now.site.now.book.now place.share) posts.places.items }
-    ensures later { IsLater lead.seat result.0.seat }
-    ensures doors { AllZip (PlaceServed (⟦<Handed<X> as Serves>⟧.scene hall.now.site.now.folders.now
-        hall.now.site.now.book.now.rows)
-        X.D.shows X.L.shows lead.seat.seen result.0.seat.seen) posts.places.items result.1.items }
-    ensures hands { result.0.hands ≡ lead.hands }
-    ensures count { vec_len result.1 ≡ vec_len posts.places }
+    site: &SiteOf<'_, X, Rt>,
+    lead: PassLeadOf<'_, '_, X>,
+    workers: Workers<'_, X>,
+) -> (PassToolsOf<X>, Vec<WorkerOf<X>>)
+    ensures later { IsLater lead.entry.tools.seat result.0.seat }
+    ensures doors { AllZip (WorkerServed (⟦<Handed<X> as ServeSettings>⟧.doors site.now.folders.now
+        workers.entry.book.now.rows)
+        X.D.shows X.L.shows lead.entry.tools.seat.seen result.0.seat.seen) workers.entry.all.items result.1.items }
+    ensures hands { result.0.hands ≡ lead.entry.tools.hands }
+    ensures share { result.0.share ≡ lead.entry.tools.share }
+    ensures count { vec_len result.1 ≡ vec_len workers.entry.all }
 {
-    let Posts {
-        places,
-        slots,
-        back,
-    } = posts;
-    let Lead { seat, hands, share } = lead;
-    let (seat, mut slots) = seats_out(hall.lock, seat, places, slots);
-    run_doors(hall, &mut slots);
-    let (seat, places) = seats_in(hall.lock, seat, slots, back);
-    (Lead { seat, hands, share }, places)
+    let PassLead { lock, tools, .. } = lead;
+    let PassTools { seat, hands, share } = tools;
+    let Workers { book, all, room } = workers;
+    let (slots, back) = room;
+    let (seat, mut slots) = seats_out(lock, seat, all, slots);
+    let shared = ThreadSite { site, lock, book };
+    run_doors::<SentOf<X>, X::G, Rt>(&shared, &mut slots);
+    let (seat, all) = seats_in(lock, seat, slots, back);
+    (PassTools { seat, hands, share }, all)
 }
 
-/// Has the doors of the places served while the passes go on, and makes one token of all.
+/// Has the doors of the workers served while the passes go on, and makes one token of all.
 fn serve_beside<X: Kinds, Rt: Threads + Wait + Sync>(
-    hall: &HallOf<'_, X, Rt>,
-    lead: LeadOf<X>,
-    posts: Posts<X>,
+    site: &SiteOf<'_, X, Rt>,
+    lead: PassLeadOf<'_, '_, X>,
+    workers: Workers<'_, X>,
     clock: &mut X::C,
     out: &mut X::O,
     err: &mut X::O,
-) -> (LeadOf<X>, Vec<PlaceOf<X>>, PassesEnd)
-    requires lock { lead.seat.lock ≡ hall.now.lock.now }
-    requires hand { 0 < vec_len lead.hands }
-    requires spared { lead.seat.origin.sparing ≡ None }
-    requires share { HasRowIn hall.now.site.now.book.now lead.share }
-    requires shares { All (λ place. HasRowIn hall.now.site.now.book.now place.share) posts.places.items }
-    ensures later { IsLater lead.seat result.0.seat }
-    ensures doors { AllZip (PlaceServed (⟦<Handed<X> as Serves>⟧.scene hall.now.site.now.folders.now
-        hall.now.site.now.book.now.rows)
-        X.D.shows X.L.shows lead.seat.seen result.0.seat.seen) posts.places.items result.1.items }
+) -> (PassToolsOf<X>, Vec<WorkerOf<X>>, PassesEnd)
+    ensures later { IsLater lead.entry.tools.seat result.0.seat }
+    ensures doors { AllZip (WorkerServed (⟦<Handed<X> as ServeSettings>⟧.doors site.now.folders.now
+        workers.entry.book.now.rows)
+        X.D.shows X.L.shows lead.entry.tools.seat.seen result.0.seat.seen) workers.entry.all.items result.1.items }
     ensures passes { (log : _) × IsPrefix log result.0.seat.seen × KeepsPassing
-        ⟦<Handed<X> as Staged>⟧.setting hall.now.site.now.roots.now hall.now.site.now.secs
-        (passing_scene lead.seat.seen lead.hands.items (X.C.woke clock.old)
-        (streams X.O.shows out.old err.old) lead.share) result.2
-        (passing_scene log result.0.hands.items (X.C.woke clock.new)
+        ⟦<Handed<X> as Staged>⟧.setting site.now.roots.now site.now.secs
+        (pass_stage lead.entry.tools.seat.seen lead.entry.tools.hands.items (X.C.woke clock.old)
+        (streams X.O.shows out.old err.old) lead.entry.tools.share) result.2
+        (pass_stage log result.0.hands.items (X.C.woke clock.new)
         (streams X.O.shows out.new err.new) result.0.share) }
-    ensures hands { vec_len result.0.hands ≡ vec_len lead.hands }
-    ensures count { vec_len result.1 ≡ vec_len posts.places }
+    ensures hands { vec_len result.0.hands ≡ vec_len lead.entry.tools.hands }
+    ensures count { vec_len result.1 ≡ vec_len workers.entry.all }
 {
-    let Posts {
-        places,
-        slots,
-        back,
-    } = posts;
-    let Lead { seat, hands, share } = lead;
-    let (seat, mut slots) = seats_out(hall.lock, seat, places, slots);
-    let mut lead = Some(Lead { seat, hands, share });
-    let end = run_beside(hall, &mut lead, &mut slots, clock, out, err);
-    let Some(Lead { seat, hands, share }) = lead else {
+    let PassLead { lock, book, tools } = lead;
+    let PassTools { seat, hands, share } = tools;
+    let (slots, back) = workers.room;
+    let (seat, mut slots) = seats_out(lock, seat, workers.all, slots);
+    let shared = ThreadSite {
+        site,
+        lock,
+        book: workers.book,
+    };
+    let mut going = Some(PassTools { seat, hands, share });
+    let end = run_beside::<SentOf<X>, X::C, X::O, X::G, Rt>(
+        &shared, book, &mut going, &mut slots, clock, out, err,
+    );
+    let Some(PassTools { seat, hands, share }) = going else {
         unreachable!()
     };
-    let (seat, places) = seats_in(hall.lock, seat, slots, back);
-    (Lead { seat, hands, share }, places, end)
+    let (seat, all) = seats_in(lock, seat, slots, back);
+    (PassTools { seat, hands, share }, all, end)
 }
 
-/// Has the doors of the places served, with passes beside them where some are to be made.
+/// Has the doors of the workers served, with passes beside them where some are to be made.
 pub(crate) fn serve_all<X: Kinds, Rt: Threads + Wait + Sync>(
-    hall: &HallOf<'_, X, Rt>,
-    lead: LeadOf<X>,
-    posts: Posts<X>,
+    site: &SiteOf<'_, X, Rt>,
+    lead: PassLeadOf<'_, '_, X>,
+    workers: Workers<'_, X>,
     passing: bool,
     clock: &mut X::C,
     out: &mut X::O,
     err: &mut X::O,
-) -> (LeadOf<X>, Vec<PlaceOf<X>>, Option<PassesEnd>)
-    requires lock { lead.seat.lock ≡ hall.now.lock.now }
-    requires hand { 0 < vec_len lead.hands }
-    requires spared { lead.seat.origin.sparing ≡ None }
-    requires share { HasRowIn hall.now.site.now.book.now lead.share }
-    requires shares { All (λ place. HasRowIn hall.now.site.now.book.now place.share) posts.places.items }
-    ensures later { IsLater lead.seat result.0.seat }
-    ensures doors { AllZip (PlaceServed (⟦<Handed<X> as Serves>⟧.scene hall.now.site.now.folders.now
-        hall.now.site.now.book.now.rows)
-        X.D.shows X.L.shows lead.seat.seen result.0.seat.seen) posts.places.items result.1.items }
-    ensures passes { GoesOn ⟦<Handed<X> as Staged>⟧.setting hall.now.site.now.roots.now
-        hall.now.site.now.secs passing
-        (passing_scene lead.seat.seen lead.hands.items (X.C.woke clock.old)
-        (streams X.O.shows out.old err.old) lead.share) result.2 result.0.seat.seen
-        (crew_of result.0.hands.items (X.C.woke clock.new)
+) -> (PassToolsOf<X>, Vec<WorkerOf<X>>, Option<PassesEnd>)
+    ensures later { IsLater lead.entry.tools.seat result.0.seat }
+    ensures doors { AllZip (WorkerServed (⟦<Handed<X> as ServeSettings>⟧.doors site.now.folders.now
+        workers.entry.book.now.rows)
+        X.D.shows X.L.shows lead.entry.tools.seat.seen result.0.seat.seen) workers.entry.all.items result.1.items }
+    ensures passes { GoesOn ⟦<Handed<X> as Staged>⟧.setting site.now.roots.now
+        site.now.secs passing
+        (pass_stage lead.entry.tools.seat.seen lead.entry.tools.hands.items (X.C.woke clock.old)
+        (streams X.O.shows out.old err.old) lead.entry.tools.share) result.2 result.0.seat.seen
+        (serve_stage result.0.hands.items (X.C.woke clock.new)
         (streams X.O.shows out.new err.new) result.1.items) }
-    ensures hands { vec_len result.0.hands ≡ vec_len lead.hands }
-    ensures count { vec_len result.1 ≡ vec_len posts.places }
+    ensures hands { vec_len result.0.hands ≡ vec_len lead.entry.tools.hands }
+    ensures count { vec_len result.1 ≡ vec_len workers.entry.all }
 {
     if passing {
-        let (lead, places, end) = serve_beside::<X, Rt>(hall, lead, posts, clock, out, err);
-        (lead, places, Some(end))
+        let (tools, all, end) = serve_beside::<X, Rt>(site, lead, workers, clock, out, err);
+        (tools, all, Some(end))
     } else {
-        let (lead, places) = serve_alone::<X, Rt>(hall, lead, posts);
-        (lead, places, None)
+        let (tools, all) = serve_alone::<X, Rt>(site, lead, workers);
+        (tools, all, None)
     }
 }

@@ -9,10 +9,9 @@ use dbgd_metrics::{Book, Drawn, Share, ShareSplit};
 use std::alloc::{AllocError, Global};
 use std::sync::Wait;
 
-/// A counter table with a row for the passes and one for each worker, and their shares.
+/// A share for the passes, and one for each worker.
 #[derive(Drop)]
 pub(crate) struct Shares {
-    pub(crate) book: Book,
     pub(crate) own: Share,
     pub(crate) others: Vec<Share>,
 }
@@ -63,15 +62,19 @@ fn split_shares<R: Wait>(
 }
 
 /// A new counter table for so many workers, with the shares, each of which has its row.
-pub(crate) fn new_shares<R: Wait>(rt: &R, alloc: Global, workers: u64) -> Result<Shares, AllocError>
+pub(crate) fn new_shares<R: Wait>(
+    rt: &R,
+    alloc: Global,
+    workers: u64,
+) -> Result<(Book, Shares), AllocError>
     requires { IsScanFit workers }
-    ensures rows { IfOk result (λ shares. shares.book.rows ≡ workers + 1) }
-    ensures own { IfOk result (λ shares. IsFreshShare shares.book shares.own) }
-    ensures others { IfOk result (λ shares. All (IsFreshShare shares.book) shares.others.items) }
-    ensures count { IfOk result (λ shares. vec_len shares.others ≡ workers) }
+    ensures rows { IfOk result (λ made. made.0.rows ≡ workers + 1) }
+    ensures own { IfOk result (λ made. IsFreshShare made.0 made.1.own) }
+    ensures others { IfOk result (λ made. All (IsFreshShare made.0) made.1.others.items) }
+    ensures count { IfOk result (λ made. vec_len made.1.others ≡ workers) }
 {
     let (book, share) = Book::make(alloc, workers + 1)?;
     let (own, others) = split_shares(rt, alloc, &book, share, workers)?;
     let own = drawn(rt, &book, own)?;
-    Ok(Shares { book, own, others })
+    Ok((book, Shares { own, others }))
 }

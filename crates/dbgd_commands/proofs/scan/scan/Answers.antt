@@ -1,6 +1,6 @@
 use Rattle.std.proofs.Common.{◌<◌, length, arith}
 use Rattle.row_types.specs.Rules.{rules}
-use Rattle.dbgd_commands.specs.Scene.{setting}
+use Rattle.dbgd_commands.specs.Stage.{setting}
 use Rattle.dbgd_commands.proofs.StoreLemmas.{scans_closed, scans_opened, scans_wanting}
 use Rattle.dbgd_commands.proofs.scan.scan.Goals as goal
 

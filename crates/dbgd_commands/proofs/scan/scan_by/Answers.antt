@@ -1,7 +1,7 @@
 -- The hands that were lent, and behind them the others again.
 use Rattle.std.proofs.Common.{◌≡◌, ◌+◌, ◌<◌, ◌≤◌, length, min, refl, arith}
 use Rattle.row_types.specs.Rules.{rules}
-use Rattle.dbgd_commands.specs.Scene.{setting}
+use Rattle.dbgd_commands.specs.Stage.{setting}
 use Rattle.dbgd_commands.proofs.OtherHands.{others_stay_behind, scans_lent}
 use Rattle.dbgd_commands.proofs.StoreLemmas.{scans_wanting}
 use Rattle.dbgd_commands.proofs.scan.scan_by.Goals as goal

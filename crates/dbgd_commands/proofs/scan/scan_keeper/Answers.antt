@@ -1,6 +1,6 @@
 use Rattle.std.proofs.Common.{◌<◌, length, refl, arith}
 use Rattle.row_types.specs.Rules.{rules}
-use Rattle.dbgd_commands.specs.Scene.{setting}
+use Rattle.dbgd_commands.specs.Stage.{setting}
 use Rattle.dbgd_commands.proofs.HandLemmas.{hands_stay}
 use Rattle.dbgd_commands.proofs.PassLemmas.{ends_passed}
 use Rattle.dbgd_commands.proofs.StoreLemmas.{passed_fault, refused_by, refused_fault, rose_some}

@@ -10,8 +10,8 @@ use Rattle.lock_crew.proofs.Slots.{RanSlot, ran_locks}
 use Rattle.lock_crew.proofs.Zips.{front_all, zip_by_index}
 use Rattle.conn_server.specs.Stage.{conn_setting}
 use Rattle.conn_server.specs.Tallied.{HasRowIn}
-use Rattle.dbgd_run.specs.Workers.{RunsPlace}
-use Rattle.dbgd_run.specs.declared.places.DoorPlace.{DoorPlace}
+use Rattle.dbgd_run.specs.Workers.{RunsWorker}
+use Rattle.dbgd_run.specs.declared.worker.Worker.{Worker}
 use Rattle.dbgd_run.proofs.WorkerLemmas.{locks_of}
 use Rattle.dbgd_run.proofs.door_crew.run_doors.Goals as goal
 
@@ -21,15 +21,15 @@ returns g c =
     let each = c.run_each.ensures in
     let old = c.args.slots.now.items in
     let new = c.run_each.new.slots in
-    let runs = RunsPlace (conn_setting g.W.Truth.true_row g.T.Tree.told g.W.Truth.version g.T.Tree.shows c.args.hall.now.site.now.folders.now c.args.hall.now.site.now.book.now.rows) g.D.Door.shows g.L.Link.shows in
-    let way = SlotRan (RanSlot {C = Slot (State g.row.W.Denot g.row.K.Denot) (DoorPlace g.row.T.Denot g.row.D.Denot g.row.L.Denot) Change Opening} (λ slot. slot.seat) (λ slot. slot.place) runs) in
+    let runs = RunsWorker (conn_setting g.Y.W.Truth.true_row g.Y.T.Tree.told g.Y.W.Truth.version g.Y.T.Tree.shows c.args.shared.now.site.now.folders.now c.args.shared.now.book.now.rows) g.Y.D.Door.shows g.Y.L.Link.shows in
+    let way = SlotRan (RanSlot {C = Slot (State g.row.Y-W.Denot g.row.Y-K.Denot) (Worker g.row.Y-T.Denot g.row.Y-D.Denot g.row.Y-L.Denot) Change Opening} (λ slot. slot.seat) (λ slot. slot.place) runs) in
     let long : c.args.slots.now.len ≡ length new = sym (each.length ∙ before.len) in
     let ran = subst (λ xs. AllZip way xs new) before.value (zip_by_index way c.as_mut_slice.result.now new each.length each.each) in
     let same = sym (front_all c.args.slots.now.len new (drop (length new) old) long) in record {
       ran = subst (AllZip way old) same ran;
-      locks = subst (All (SlotHas {C = Slot (State g.row.W.Denot g.row.K.Denot) (DoorPlace g.row.T.Denot g.row.D.Denot g.row.L.Denot) Change Opening} (λ slot. slot.seat.lock ≡ c.args.hall.now.lock.now))) same
-          (ran_locks (λ slot. slot.seat) (λ slot. slot.place) runs c.args.hall.now.lock.now old new
-          (locks_of {C = Slot (State g.row.W.Denot g.row.K.Denot) (DoorPlace g.row.T.Denot g.row.D.Denot g.row.L.Denot) Change Opening} (λ slot. slot.seat)
-          (λ slot. HasRowIn c.args.hall.now.site.now.book.now slot.place.share) c.args.hall.now.lock.now old c.requires.filled) ran);
+      locks = subst (All (SlotHas {C = Slot (State g.row.Y-W.Denot g.row.Y-K.Denot) (Worker g.row.Y-T.Denot g.row.Y-D.Denot g.row.Y-L.Denot) Change Opening} (λ slot. slot.seat.lock ≡ c.args.shared.now.lock.now))) same
+          (ran_locks (λ slot. slot.seat) (λ slot. slot.place) runs c.args.shared.now.lock.now old new
+          (locks_of {C = Slot (State g.row.Y-W.Denot g.row.Y-K.Denot) (Worker g.row.Y-T.Denot g.row.Y-D.Denot g.row.Y-L.Denot) Change Opening} (λ slot. slot.seat)
+          (λ slot. HasRowIn c.args.shared.now.book.now slot.place.share) c.args.shared.now.lock.now old c.requires.filled) ran);
       count = refl;
     }

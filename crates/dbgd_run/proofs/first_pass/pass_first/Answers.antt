@@ -24,5 +24,5 @@ returns-clause-made g c =
 
 pub returns-clause-hands : goal.returns-clause-hands
 returns-clause-hands g c =
-    let back = goes_length _ _ c.args.lead.hands.items c.run_pass-seat.result.1.items c.run_pass-seat.ensures.pass in
-    omega (arith, back, c.run_pass-seat.result.1.ok.0, c.args.lead.hands.ok.0)
+    let back = goes_length _ _ c.args.lead.tools.hands.items c.run_pass-seat.result.1.items c.run_pass-seat.ensures.pass in
+    omega (arith, back, c.run_pass-seat.result.1.ok.0, c.args.lead.tools.hands.ok.0)

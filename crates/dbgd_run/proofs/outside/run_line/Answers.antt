@@ -18,7 +18,9 @@ returns-in-Scan-clause-law g c =
     })
 
 pub returns-in-Serve-clause-law : goal.returns-in-Serve-clause-law
-returns-in-Serve-clause-law g c = rw c.in-Serve.is c.run_serve.ensures.runs
+returns-in-Serve-clause-law g c =
+    let one = (rw c.in-Serve.is at c.requires.fits).one in
+    rw c.in-Serve.is (c.run_serve.ensures.runs _ ((rw c.in-Serve.is at c.requires.enough) (omega (arith, one))).3)
 
 pub returns-in-Trial-clause-law : goal.returns-in-Trial-clause-law
 returns-in-Trial-clause-law g c =
@@ -62,11 +64,6 @@ run_serve-requires-clause-links g c = λ κs within.
     let one = (rw c.in-Serve.is at c.requires.fits).one in
     let rows = ((rw c.in-Serve.is at c.requires.enough) (omega (arith, one))).2 in
     omega (arith, rows, c.args.outside.now.links.ok.0)
-
-pub run_serve-requires-clause-linked : goal.run_serve-requires-clause-linked
-run_serve-requires-clause-linked g c = λ κs within.
-    let one = (rw c.in-Serve.is at c.requires.fits).one in
-    ((rw c.in-Serve.is at c.requires.enough) (omega (arith, one))).3
 
 -- a scan needs a hand
 pub run_scan-requires-clause-hand : goal.run_scan-requires-clause-hand

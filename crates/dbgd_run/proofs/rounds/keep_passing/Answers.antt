@@ -1,14 +1,14 @@
 -- One round more, and how the passing ends.
-use Rattle.std.proofs.Common.{◌≡◌, ◌∙◌, ℕ, Option, length, refl, sym, subst, arith}
+use Rattle.std.proofs.Common.{◌∙◌, ℕ, Option, refl, sym, subst, arith}
 use Rattle.std.specs.Option.{IsSome}
 use Rattle.row_types.specs.Rules.{rules}
 use Rattle.index_lock.proofs.Later.{later_self, later_trans}
 use Rattle.tree_trait.specs.Clock.{Wakes}
 use Rattle.tree_trait.specs.declared.clock.Wake.{Wake}
 use Rattle.dbgd_commands.specs.Endings.{streams}
-use Rattle.dbgd_commands.specs.Scene.{setting}
+use Rattle.dbgd_commands.specs.Stage.{setting}
 use Rattle.dbgd_commands.proofs.HandLemmas.{goes_length}
-use Rattle.dbgd_run.specs.Rounds.{IsRound, KeepsPassing, PassingScene, Round, passing_scene}
+use Rattle.dbgd_run.specs.Rounds.{IsRound, KeepsPassing, Round, pass_stage}
 use Rattle.dbgd_run.specs.declared.passes_end.PassesEnd.{PassesEnd}
 use Rattle.dbgd_run.proofs.RoundLemmas.{keeps_cut, keeps_none, keeps_stopped, keeps_unmade, keeps_written}
 use Rattle.dbgd_run.proofs.rounds.keep_passing.Goals as goal
@@ -16,7 +16,7 @@ use Rattle.dbgd_run.proofs.rounds.keep_passing.Goals as goal
 pub loop-init : goal.loop-init
 loop-init g c =
     let s = setting (rules g.W.Truth.version g.W.Truth.true_row g.W.Truth.told) g.T.Tree.told g.T.Tree.shows g.K.Keeper.told in
-    let before = passing_scene c.args.seat.seen c.args.hands.items (g.C.Clock.woke c.args.clock.now)
+    let before = pass_stage c.args.seat.seen c.args.hands.items (g.C.Clock.woke c.args.clock.now)
     (streams g.O.Stream.shows c.args.out.now c.args.err.now) c.args.share.now in (
       keeps_none s c.args.roots.now c.args.secs before,
       later_self c.args.seat,
@@ -30,14 +30,14 @@ loop-init g c =
 pub loop-preserved-in-Written : goal.loop-preserved-in-Written
 loop-preserved-in-Written g c =
     let s = setting (rules g.W.Truth.version g.W.Truth.true_row g.W.Truth.told) g.T.Tree.told g.T.Tree.shows g.K.Keeper.told in
-    let before = passing_scene c.args.seat.seen c.args.hands.items (g.C.Clock.woke c.args.clock.now)
+    let before = pass_stage c.args.seat.seen c.args.hands.items (g.C.Clock.woke c.args.clock.now)
     (streams g.O.Stream.shows c.args.out.now c.args.err.now) c.args.share.now in
-    let now = passing_scene c.loop.seat.seen c.loop.hands.items (g.C.Clock.woke c.loop.clock)
+    let now = pass_stage c.loop.seat.seen c.loop.hands.items (g.C.Clock.woke c.loop.clock)
     (streams g.O.Stream.shows c.loop.out c.loop.err) c.loop.share in
     let base = c.loop.invariant in
     let ran = c.run_pass-next.ensures in
     let noted = c.note_pass.ensures in
-    let after = passing_scene c.run_pass-next.result.0.seen c.run_pass-next.result.1.items (g.C.Clock.woke c.wait.new.self)
+    let after = pass_stage c.run_pass-next.result.0.seen c.run_pass-next.result.1.items (g.C.Clock.woke c.wait.new.self)
     (streams g.O.Stream.shows c.note_pass.new.out c.note_pass.new.err) c.note_pass.new.share in
     let round : Round _ = record { end = c.run_pass-next.result.2; fate = c.note_pass.result; after = after } in
     let is : IsRound s c.args.roots.now c.args.secs now round = record {
@@ -67,14 +67,14 @@ loop-preserved-in-Written g c =
 pub loop-preserved : goal.loop-preserved
 loop-preserved g c =
     let s = setting (rules g.W.Truth.version g.W.Truth.true_row g.W.Truth.told) g.T.Tree.told g.T.Tree.shows g.K.Keeper.told in
-    let before = passing_scene c.args.seat.seen c.args.hands.items (g.C.Clock.woke c.args.clock.now)
+    let before = pass_stage c.args.seat.seen c.args.hands.items (g.C.Clock.woke c.args.clock.now)
     (streams g.O.Stream.shows c.args.out.now c.args.err.now) c.args.share.now in
-    let now = passing_scene c.loop.seat.seen c.loop.hands.items (g.C.Clock.woke c.loop.clock)
+    let now = pass_stage c.loop.seat.seen c.loop.hands.items (g.C.Clock.woke c.loop.clock)
     (streams g.O.Stream.shows c.loop.out c.loop.err) c.loop.share in
     let base = c.loop.invariant in
     let ran = c.run_pass-next.ensures in
     let noted = c.note_pass.ensures in
-    let after = passing_scene c.run_pass-next.result.0.seen c.run_pass-next.result.1.items (g.C.Clock.woke c.wait.new.self)
+    let after = pass_stage c.run_pass-next.result.0.seen c.run_pass-next.result.1.items (g.C.Clock.woke c.wait.new.self)
     (streams g.O.Stream.shows c.note_pass.new.out c.note_pass.new.err) c.note_pass.new.share in
     let round : Round _ = record { end = c.run_pass-next.result.2; fate = c.note_pass.result; after = after } in
     let is : IsRound s c.args.roots.now c.args.secs now round = record {
@@ -104,12 +104,12 @@ loop-preserved g c =
 pub returns-in-Stop-clause-passes : goal.returns-in-Stop-clause-passes
 returns-in-Stop-clause-passes g c =
     let s = setting (rules g.W.Truth.version g.W.Truth.true_row g.W.Truth.told) g.T.Tree.told g.T.Tree.shows g.K.Keeper.told in
-    let before = passing_scene c.args.seat.seen c.args.hands.items (g.C.Clock.woke c.args.clock.now)
+    let before = pass_stage c.args.seat.seen c.args.hands.items (g.C.Clock.woke c.args.clock.now)
     (streams g.O.Stream.shows c.args.out.now c.args.err.now) c.args.share.now in
-    let now = passing_scene c.loop.seat.seen c.loop.hands.items (g.C.Clock.woke c.loop.clock)
+    let now = pass_stage c.loop.seat.seen c.loop.hands.items (g.C.Clock.woke c.loop.clock)
     (streams g.O.Stream.shows c.loop.out c.loop.err) c.loop.share in
     let base = c.loop.invariant in
-    let after = passing_scene c.loop.seat.seen c.loop.hands.items (g.C.Clock.woke c.wait.new.self)
+    let after = pass_stage c.loop.seat.seen c.loop.hands.items (g.C.Clock.woke c.wait.new.self)
     (streams g.O.Stream.shows c.loop.out c.loop.err) c.loop.share in
     subst (λ (end : PassesEnd). KeepsPassing s c.args.roots.now c.args.secs before end after) (sym c.stopped_by.ensures)
     (keeps_stopped s c.args.roots.now c.args.secs before now after c.loop.failed base.0
@@ -123,14 +123,14 @@ returns-in-Stop-clause-passes g c =
 pub returns-in-Unmade-clause-passes : goal.returns-in-Unmade-clause-passes
 returns-in-Unmade-clause-passes g c =
     let s = setting (rules g.W.Truth.version g.W.Truth.true_row g.W.Truth.told) g.T.Tree.told g.T.Tree.shows g.K.Keeper.told in
-    let before = passing_scene c.args.seat.seen c.args.hands.items (g.C.Clock.woke c.args.clock.now)
+    let before = pass_stage c.args.seat.seen c.args.hands.items (g.C.Clock.woke c.args.clock.now)
     (streams g.O.Stream.shows c.args.out.now c.args.err.now) c.args.share.now in
-    let now = passing_scene c.loop.seat.seen c.loop.hands.items (g.C.Clock.woke c.loop.clock)
+    let now = pass_stage c.loop.seat.seen c.loop.hands.items (g.C.Clock.woke c.loop.clock)
     (streams g.O.Stream.shows c.loop.out c.loop.err) c.loop.share in
     let base = c.loop.invariant in
     let ran = c.run_pass-next.ensures in
     let noted = c.note_pass.ensures in
-    let after = passing_scene c.run_pass-next.result.0.seen c.run_pass-next.result.1.items (g.C.Clock.woke c.wait.new.self)
+    let after = pass_stage c.run_pass-next.result.0.seen c.run_pass-next.result.1.items (g.C.Clock.woke c.wait.new.self)
     (streams g.O.Stream.shows c.note_pass.new.out c.note_pass.new.err) c.note_pass.new.share in
     let round : Round _ = record { end = c.run_pass-next.result.2; fate = c.note_pass.result; after = after } in
     let is : IsRound s c.args.roots.now c.args.secs now round = record {

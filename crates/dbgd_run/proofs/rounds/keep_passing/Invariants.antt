@@ -4,8 +4,8 @@ use Rattle.std.specs.Option.{IsSome}
 use Rattle.row_types.specs.Rules.{rules}
 use Rattle.index_lock.specs.Tokens.{IsLater}
 use Rattle.dbgd_commands.specs.Endings.{streams}
-use Rattle.dbgd_commands.specs.Scene.{setting}
-use Rattle.dbgd_run.specs.Rounds.{passing_scene}
+use Rattle.dbgd_commands.specs.Stage.{setting}
+use Rattle.dbgd_run.specs.Rounds.{pass_stage}
 use Rattle.dbgd_run.proofs.RoundLemmas.{KeepsOn}
 use Rattle.dbgd_run.proofs.rounds.keep_passing.Given as goal
 
@@ -13,9 +13,9 @@ abbrev pub invariant-loop : goal.invariant-loop
 invariant-loop g l =
     KeepsOn
     (setting (rules g.W.Truth.version g.W.Truth.true_row g.W.Truth.told) g.T.Tree.told g.T.Tree.shows g.K.Keeper.told) l.roots l.secs
-    (passing_scene l.fn.seat.seen l.fn.hands.items (g.C.Clock.woke l.fn.clock) (streams g.O.Stream.shows l.fn.out l.fn.err) l.fn.share)
+    (pass_stage l.fn.seat.seen l.fn.hands.items (g.C.Clock.woke l.fn.clock) (streams g.O.Stream.shows l.fn.out l.fn.err) l.fn.share)
     l.failed
-    (passing_scene l.seat.seen l.hands.items (g.C.Clock.woke l.clock) (streams g.O.Stream.shows l.out l.err) l.share)
+    (pass_stage l.seat.seen l.hands.items (g.C.Clock.woke l.clock) (streams g.O.Stream.shows l.out l.err) l.share)
     × IsLater l.fn.seat l.seat
     × (l.seat.lock ≡ l.lock)
     × (vec_len l.hands ≡ vec_len l.fn.hands)

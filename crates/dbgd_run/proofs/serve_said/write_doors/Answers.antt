@@ -1,4 +1,4 @@
--- The line of one more place, and in the end no place is left.
+-- The line of one more worker, and in the end no worker is left.
 use Rattle.std.proofs.Common.{◌≡◌, ◌<◌, ◌≤◌, ◌+◌, ◌∙◌, ℕ, List, ◌∷◌, ◌++◌, drop, length, sym, ap, subst, arith}
 use Rattle.std.specs.List.{flat_map}
 use Rattle.std.proofs.Common.{length-append, rules}
@@ -24,15 +24,15 @@ part_of_more {before} {after} {a} b part =
       reading = part.reading;
     }
 
-pub loop-place-preserved : goal.loop-place-preserved
-loop-place-preserved g c = λ new.
-    let at = c.loop-place in
-    let places = c.args.places.now in
-    let x = c.place-item.result in
-    let rest = drop (at.place-index + 1) places in
-    let below : at.place-index < length places = omega arith in
-    let steps : drop at.place-index places ≡ x ∷ rest
-    = drop_more places at.place-index x below ∙ ap (λ y. y ∷ rest) (sym c.place-item.is) in (
+pub loop-worker-preserved : goal.loop-worker-preserved
+loop-worker-preserved g c = λ new.
+    let at = c.loop-worker in
+    let workers = c.args.workers.now in
+    let x = c.worker-item.result in
+    let rest = drop (at.worker-index + 1) workers in
+    let below : at.worker-index < length workers = omega arith in
+    let steps : drop at.worker-index workers ≡ x ∷ rest
+    = drop_more workers at.worker-index x below ∙ ap (λ y. y ∷ rest) (sym c.worker-item.is) in (
       λ gets.
           (at.invariant new).0
           (subst (λ left. GetsAll (flat_map end_line (ends_at left)) (g.O.Stream.shows at.err) new) (sym steps)
@@ -45,14 +45,14 @@ loop-place-preserved g c = λ new.
 
 pub returns-in_err-say_door : goal.returns-in_err-say_door
 returns-in_err-say_door g c =
-    let at = c.loop-place in
-    let places = c.args.places.now in
-    let x = c.place-item.result in
-    let rest = drop (at.place-index + 1) places in
-    let below : at.place-index < length places = omega arith in
-    let steps : drop at.place-index places ≡ x ∷ rest
-    = drop_more places at.place-index x below ∙ ap (λ y. y ∷ rest) (sym c.place-item.is) in
-    let part : GetsPart (flat_map end_line (ends_at places)) (g.O.Stream.shows c.args.err.now) (g.O.Stream.shows c.say_door.new.err) =
+    let at = c.loop-worker in
+    let workers = c.args.workers.now in
+    let x = c.worker-item.result in
+    let rest = drop (at.worker-index + 1) workers in
+    let below : at.worker-index < length workers = omega arith in
+    let steps : drop at.worker-index workers ≡ x ∷ rest
+    = drop_more workers at.worker-index x below ∙ ap (λ y. y ∷ rest) (sym c.worker-item.is) in
+    let part : GetsPart (flat_map end_line (ends_at workers)) (g.O.Stream.shows c.args.err.now) (g.O.Stream.shows c.say_door.new.err) =
     (at.invariant (g.O.Stream.shows c.say_door.new.err)).1
     (subst (λ left. GetsPart (flat_map end_line (ends_at left)) (g.O.Stream.shows at.err) (g.O.Stream.shows c.say_door.new.err)) (sym steps)
     (part_of_more (flat_map end_line (ends_at rest)) c.in_err-say_door.ensures)) in
@@ -60,9 +60,9 @@ returns-in_err-say_door g c =
 
 pub returns : goal.returns
 returns g c =
-    let at = c.loop-place in
-    let places = c.args.places.now in
-    let none : length places ≤ at.place-index = omega arith in
+    let at = c.loop-worker in
+    let workers = c.args.workers.now in
+    let none : length workers ≤ at.worker-index = omega arith in
     (at.invariant (g.O.Stream.shows at.err)).0
     (subst (λ left. GetsAll (flat_map end_line (ends_at left)) (g.O.Stream.shows at.err) (g.O.Stream.shows at.err))
-    (sym (drop_all at.place-index places none)) (gets_none (g.O.Stream.shows at.err)))
+    (sym (drop_all at.worker-index workers none)) (gets_none (g.O.Stream.shows at.err)))

@@ -9,32 +9,29 @@ use Rattle.lock_crew.specs.declared.crew.Slot.{Slot}
 use Rattle.lock_crew.proofs.Slots.{run_places}
 use Rattle.conn_server.specs.Stage.{conn_setting}
 use Rattle.conn_server.specs.Tallied.{HasRowIn}
-use Rattle.dbgd_run.specs.Workers.{RunsPlace}
-use Rattle.dbgd_run.specs.declared.places.DoorPlace.{DoorPlace}
+use Rattle.dbgd_run.specs.Workers.{RunsWorker}
+use Rattle.dbgd_run.specs.declared.worker.Worker.{Worker}
 use Rattle.dbgd_run.proofs.WorkerLemmas.{all_served, ready_all}
 use Rattle.dbgd_run.proofs.server.serve_beside.Goals as goal
 
 -- the slots have the shares of the places
 pub run_beside-end-requires-clause-slots : goal.run_beside-end-requires-clause-slots
 run_beside-end-requires-clause-slots g c = λ κs within.
-    ready_all {C = Slot (State g.row.X-W.Denot g.row.X-S-K.Denot) (DoorPlace g.row.X-T.Denot g.row.X-D.Denot g.row.X-L.Denot) Change Opening} (λ slot. slot.seat) (λ slot. slot.place) (λ place. HasRowIn c.args.hall.now.site.now.book.now place.share)
-    c.args.hall.now.lock.now c.args.lead.seat c.requires.lock c.args.posts.places.items _ c.requires.shares c.seats_out-seat.ensures.slots
+    ready_all {C = Slot (State g.row.X-W.Denot g.row.X-S-K.Denot) (Worker g.row.X-T.Denot g.row.X-D.Denot g.row.X-L.Denot) Change Opening} (λ slot. slot.seat) (λ slot. slot.place) (λ place. HasRowIn c.args.workers.book.now place.share)
+    c.args.lead.lock.now c.args.lead.tools.seat c.args.lead.locked c.args.workers.all.items _ c.args.workers.rows c.seats_out-seat.ensures.slots
 
 pub returns-clause-doors : goal.returns-clause-doors
 returns-clause-doors g c =
-    let scene = (conn_setting g.X.W.Truth.true_row g.X.T.Tree.told g.X.W.Truth.version g.X.T.Tree.shows c.args.hall.now.site.now.folders.now c.args.hall.now.site.now.book.now.rows) in
-    all_served scene g.X.D.Door.shows g.X.L.Link.shows c.args.lead.seat c.seats_in-seat.result.0
-    c.args.posts.places.items c.seats_in-seat.result.1.items
-    (run_places {C = Slot (State g.row.X-W.Denot g.row.X-S-K.Denot) (DoorPlace g.row.X-T.Denot g.row.X-D.Denot g.row.X-L.Denot) Change Opening} (λ slot. slot.seat) (λ slot. slot.place)
-    (RunsPlace scene g.X.D.Door.shows g.X.L.Link.shows) c.args.lead.seat c.seats_in-seat.result.0
+    let setting = (conn_setting g.X.W.Truth.true_row g.X.T.Tree.told g.X.W.Truth.version g.X.T.Tree.shows c.args.site.now.folders.now c.args.workers.book.now.rows) in
+    all_served setting g.X.D.Door.shows g.X.L.Link.shows c.args.lead.tools.seat c.seats_in-seat.result.0
+    c.args.workers.all.items c.seats_in-seat.result.1.items
+    (run_places {C = Slot (State g.row.X-W.Denot g.row.X-S-K.Denot) (Worker g.row.X-T.Denot g.row.X-D.Denot g.row.X-L.Denot) Change Opening} (λ slot. slot.seat) (λ slot. slot.place)
+    (RunsWorker setting g.X.D.Door.shows g.X.L.Link.shows) c.args.lead.tools.seat c.seats_in-seat.result.0
     _ _ _ _ c.seats_out-seat.ensures.slots c.run_beside-end.ensures.ran c.seats_in-seat.ensures.places)
 
 -- the token of the passes goes on from the first one, and that of all from it
 pub returns-clause-later : goal.returns-clause-later
 returns-clause-later g c =
-    let ran = rw c.in-Some.is at c.run_beside-end.ensures.lead in
+    let ran = rw c.in-Some.is at c.run_beside-end.ensures.going in
     later_trans (subst (λ seat. IsLater {E = Change} {O = Opening} seat c.in-Some.field-0.seat) c.seats_out-seat.ensures.same ran.0)
     c.seats_in-seat.ensures.later
-
--- what the passes did, by the slot that their token was in: a beginning of what the token of all has seen
--- (the clause `passes` is `(log, prefix, keeps)` of c.run_beside-end.ensures.lead; auto found it in the small crown)

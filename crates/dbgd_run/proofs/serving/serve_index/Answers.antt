@@ -5,17 +5,16 @@ use Rattle.index_lock.proofs.Prefixes.{prefix_trans}
 use Rattle.index_rows.specs.declared.change.Change.{Change}
 use Rattle.index_state.specs.State.{StateFacts}
 use Rattle.index_state.specs.declared.answer.Standing.{Standing}
-use Rattle.dbgd_run.proofs.JoinedLemmas.{serves_later}
+use Rattle.dbgd_run.proofs.ServeSteps.{serves_later}
 use Rattle.dbgd_run.proofs.serving.serve_index.Goals as goal
 
--- c.serve_locked-lead.ensures.serves is ServesFrom at what the joined token has seen; `enter` says that the value's log goes on from
--- that, and into_value gives that value
+-- the value's log goes on from what the joined token has seen
 pub returns-in-Ok-clause-serves : goal.returns-in-Ok-clause-serves
 returns-in-Ok-clause-serves g c =
-    let joined : List Change = c.serve_locked-lead.result.0.seat.seen in
+    let joined : List Change = c.serve_from-tools.result.0.seat.seen in
     let last : List Change = c.into_value-state.result.log in
     let ended : IsPrefix joined last = subst (λ (xs : List Change). IsPrefix joined xs) (sym (ap (λ (i : StateFacts g.row.X-S-K.Denot). i.log) c.into_value-state.ensures)) c.enter-held.ensures.begins in
-    let later = c.serve_locked-lead.ensures.later in record {
+    let later = c.serve_from-tools.ensures.later in record {
       new = c.into_value-state.result;
       value = c.into_keeper.ensures.value;
       holds = c.into_keeper.ensures.holds;
@@ -25,9 +24,9 @@ returns-in-Ok-clause-serves g c =
       begins =
           subst (λ (xs : List Change). IsPrefix xs last) c.in-Ok.ensures.seen.0
           (prefix_trans c.in-Ok.seat.seen joined last later.log ended);
-      serves = serves_later _ _ _ _ _ joined last _ ended (rw c.in-Ok.ensures.seen.0 at c.serve_locked-lead.ensures.serves);
+      serves = serves_later _ _ _ _ _ joined last _ ended (rw c.in-Ok.ensures.seen.0 at c.serve_from-tools.ensures.serves);
     }
 
 pub returns-in-Err-clause-serves : goal.returns-in-Err-clause-serves
-returns-in-Err-clause-serves g c = rw (c.unserved.ensures.hands, c.unserved.ensures.places, c.unserved.ensures.end, ← c.in-Err.ensures.memory)
-    (record { value = c.into_keeper-in-Err.ensures.value; holds = c.into_keeper-in-Err.ensures.holds; same = refl })
+returns-in-Err-clause-serves g c = rw (c.unserved.ensures.hands, c.unserved.ensures.workers, c.unserved.ensures.end, ← c.in-Err.ensures.memory)
+    (record { value = c.into_keeper-in-Err.ensures.value; holds = c.into_keeper-in-Err.ensures.holds; quiet = refl; same = (refl, refl, refl) })

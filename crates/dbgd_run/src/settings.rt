@@ -3,9 +3,9 @@
 ghost use Rattle.std.specs.Prelude.{ℕ, List};
 ghost use Rattle.row_types.specs.Rules.{rules};
 ghost use Rattle.conn_server.specs.Stage.{ConnSetting};
-ghost use Rattle.dbgd_commands.specs.Scene.{setting};
-ghost use Rattle.dbgd_run.specs.Serve.{doors_scene};
-ghost use Rattle.dbgd_run.specs.Serving.{ServeRules, serve_rules};
+ghost use Rattle.dbgd_commands.specs.Stage.{setting};
+ghost use Rattle.dbgd_run.specs.Serve.{doors_setting};
+ghost use Rattle.dbgd_run.specs.Serving.{ServeSetting, serve_setting};
 
 use dbgd_commands::Outside;
 use elf_reading::ElfTruth;
@@ -15,7 +15,7 @@ use index_keeper::Store;
 use tree_trait::{Clock, Gate, Tree};
 
 /// What contracts know of what stays while a server runs.
-pub trait Serves {
+pub trait ServeSettings {
     type Hand;
 
     type Door;
@@ -23,11 +23,11 @@ pub trait Serves {
     type Link;
 
     /// What doors are served with, by the folders of sources and the rows of the counter table.
-    ghost scene: { List (List ℕ) → ℕ → ConnSetting Self.Hand };
+    ghost doors: { List (List ℕ) → ℕ → ConnSetting Self.Hand };
 
     /// That, with what a run rests on, the folders that are scanned, the seconds between passes, and
     /// what a door and a link show.
-    ghost rules: { List (List ℕ) → ℕ → List (List ℕ) → ℕ → ServeRules Self.Hand Self.Door Self.Link };
+    ghost setting: { List (List ℕ) → ℕ → List (List ℕ) → ℕ → ServeSetting Self.Hand Self.Door Self.Link };
 }
 
 impl<
@@ -39,17 +39,17 @@ impl<
     C: Clock + Drop,
     O: Sink,
     G: Gate + Drop,
-> Serves for Outside<W, T, S, D, L, C, O, G> {
+> ServeSettings for Outside<W, T, S, D, L, C, O, G> {
     type Hand = T;
 
     type Door = D;
 
     type Link = L;
 
-    ghost scene = { doors_scene (setting (rules W.version W.true_row W.told) T.told T.shows S.K.told) };
+    ghost doors = { doors_setting (setting (rules W.version W.true_row W.told) T.told T.shows S.K.told) };
 
-    ghost rules = { λ roots secs folders rows. serve_rules
+    ghost setting = { λ roots secs folders rows. serve_setting
         (setting (rules W.version W.true_row W.told) T.told T.shows S.K.told) roots secs
-        (doors_scene (setting (rules W.version W.true_row W.told) T.told T.shows S.K.told) folders rows)
+        (doors_setting (setting (rules W.version W.true_row W.told) T.told T.shows S.K.told) folders rows)
         D.shows L.shows };
 }
