@@ -4,6 +4,7 @@ pub mod Dials
 pub mod Errors
 pub mod FolderRead
 pub mod Fronts
+pub mod Halls
 pub mod Listens
 pub mod Lobbies
 pub mod Numbers

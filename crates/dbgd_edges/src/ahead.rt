@@ -14,6 +14,10 @@ pub const WINDOW: u64 = 8192;
 /// How many of them lie in front of the place that is asked.
 pub const BEFORE: u64 = 2048;
 
+/// How many bytes of a longer file are read at a time, where what is asked goes on from what was read
+/// last.
+pub const ONWARD: u64 = 32_768;
+
 /// Bytes of a file that were read before they were asked for, as they were at one moment.
 #[derive(Drop)]
 pub struct Ahead {
@@ -23,9 +27,12 @@ pub struct Ahead {
 }
 
 /// Where a file of this size is read from for what is asked at a place, and how many bytes of it.
-fn window(at: u64, size: u64) -> (u64, u64) {
+fn window(at: u64, size: u64, goes_on: bool) -> (u64, u64) {
     if size <= WHOLE {
         return (0, size);
+    }
+    if goes_on {
+        return (at, size.saturating_sub(at).min(ONWARD));
     }
     let start = at.saturating_sub(BEFORE);
     (start, size.saturating_sub(start).min(WINDOW))
@@ -85,12 +92,18 @@ impl Ahead {
         }
     }
 
+    /// Whether a place is one of those that were read, or the next one behind them.
+    fn goes_on(&self, at: u64) -> bool {
+        let read = self.bytes.len() as u64;
+        read > 0 && at.checked_sub(self.start).is_some_and(|from| from <= read)
+    }
+
     /// Makes room for what is read for so many bytes at a place of a file of this size. Gives whether all of
     /// them are read so.
     pub fn turn_to(&mut self, at: u64, len: usize, size: u64) -> bool
         ensures { ArePinnedAhead }
     {
-        let (start, most) = window(at, size);
+        let (start, most) = window(at, size, self.goes_on(at));
         if at.saturating_add(len as u64) > start.saturating_add(most) {
             return false;
         }

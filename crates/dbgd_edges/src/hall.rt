@@ -1,6 +1,8 @@
 //! The places of a lobby.
 
-ghost use Rattle.std.specs.Prelude.{◌≡◌, ◌≤◌, [], length};
+ghost use Rattle.std.specs.Prelude.{◌≡◌, ◌+◌, ◌-◌, ◌^◌, ◌≤◌, ◌∷◌, [], false, None, Some, length, min, slice_index_or, slice_set, IfSome};
+ghost use Rattle.std.specs.Bool.{OnTrue};
+ghost use Rattle.dbgd_edges.specs.Halls.{KeepsOtherPlaces, conn_at};
 
 use crate::lobby_limits::LobbyLimits;
 use crate::parked::{Lot, Parked, Why};
@@ -71,30 +73,54 @@ impl Hall {
     /// Gives a place back.
     pub fn free_place(&mut self, place: usize)
         ensures rows { self.new.rows.items ≡ self.old.rows.items }
+        ensures ready { self.new.ready.items ≡ self.old.ready.items }
         ensures counts { (self.new.conns ≡ self.old.conns) × (self.new.bytes ≡ self.old.bytes) }
     {
         let _ = self.free.push(place);
     }
 
     /// Puts a connection at its place. Gives whether the system told of it while a worker had it.
-    pub fn put(&mut self, place: usize, parked: Parked) -> bool {
+    pub fn put(&mut self, place: usize, parked: Parked) -> bool
+        ensures rows { self.new.rows.items ≡ slice_set self.old.rows.items place (Some parked) }
+        ensures missed { result ≡ slice_index_or self.old.missed.items place false }
+        ensures noted { self.new.missed.items ≡ slice_set self.old.missed.items place false }
+        ensures free { self.new.free.items ≡ self.old.free.items }
+        ensures ready { self.new.ready.items ≡ self.old.ready.items }
+    {
+        self.fill(place, parked);
+        if place < self.missed.len() {
+            mem::replace(&mut self.missed[place], false)
+        } else {
+            false
+        }
+    }
+
+    /// Puts a connection at its place, and counts it.
+    fn fill(&mut self, place: usize, parked: Parked)
+        ensures rows { self.new.rows.items ≡ slice_set self.old.rows.items place (Some parked) }
+        ensures missed { self.new.missed.items ≡ self.old.missed.items }
+        ensures free { self.new.free.items ≡ self.old.free.items }
+        ensures ready { self.new.ready.items ≡ self.old.ready.items }
+    {
         let held = parked.begun.capacity() as u64;
-        if let Some(row) = self.rows.get_mut(place) {
-            *row = Some(parked);
+        if place < self.rows.len() {
+            self.rows[place] = Some(parked);
             self.conns = self.conns.saturating_add(1);
             self.bytes = self.bytes.saturating_add(held);
-        }
-        match self.missed.get_mut(place) {
-            Some(is_missed) => mem::replace(is_missed, false),
-            None => false,
         }
     }
 
     /// Takes out what stands at a place.
     fn take(&mut self, place: usize) -> Option<Parked>
-        ensures { self.new.conns ≤ self.old.conns }
+        ensures stood { result ≡ conn_at self.old.rows.items place }
+        ensures rows { self.new.rows.items ≡ slice_set self.old.rows.items place None }
+        ensures ready { self.new.ready.items ≡ self.old.ready.items }
+        ensures conns { self.new.conns ≤ self.old.conns }
     {
-        let parked = self.rows.get_mut(place)?.take()?;
+        if place >= self.rows.len() {
+            return None;
+        }
+        let parked = self.rows[place].take()?;
         self.conns = self.conns.saturating_sub(1);
         self.bytes = self.bytes.saturating_sub(parked.begun.capacity() as u64);
         Some(parked)
@@ -102,7 +128,9 @@ impl Hall {
 
     /// Closes the connection at a place.
     pub fn close(&mut self, place: usize)
-        ensures { self.new.conns ≤ self.old.conns }
+        ensures rows { self.new.rows.items ≡ slice_set self.old.rows.items place None }
+        ensures ready { self.new.ready.items ≡ self.old.ready.items }
+        ensures conns { self.new.conns ≤ self.old.conns }
     {
         if self.take(place).is_some() {
             self.free_place(place);
@@ -110,8 +138,14 @@ impl Hall {
     }
 
     /// Has a worker take the connection at a place, if one stands there.
-    pub fn tell(&mut self, place: usize) {
-        if let Some(Some(parked)) = self.rows.get_mut(place) {
+    pub fn tell(&mut self, place: usize)
+        ensures others { KeepsOtherPlaces place self.old.rows.items self.new.rows.items }
+        ensures counts { (self.new.conns ≡ self.old.conns) × (self.new.bytes ≡ self.old.bytes) }
+    {
+        if place >= self.rows.len() {
+            return;
+        }
+        if let Some(parked) = &mut self.rows[place] {
             if !parked.is_told && self.ready.push_back(place).is_ok() {
                 parked.is_told = true;
             }
@@ -120,23 +154,50 @@ impl Hall {
 
     /// Has a worker take the connection at a place of which the system told, or notes that it did while
     /// a worker has it.
-    pub fn hear(&mut self, place: usize, is_ended: bool) {
-        if let Some(Some(parked)) = self.rows.get_mut(place) {
-            parked.is_ended = parked.is_ended || is_ended;
+    pub fn hear(&mut self, place: usize, is_ended: bool)
+        ensures others { KeepsOtherPlaces place self.old.rows.items self.new.rows.items }
+        ensures counts { (self.new.conns ≡ self.old.conns) × (self.new.bytes ≡ self.old.bytes) }
+    {
+        if self.note_end(place, is_ended) {
             self.tell(place);
         } else if let Some(is_missed) = self.missed.get_mut(place) {
             *is_missed = true;
         }
     }
 
+    /// Notes that the other side of the connection at a place has ended, where it has. Gives whether one
+    /// stands there.
+    fn note_end(&mut self, place: usize, is_ended: bool) -> bool
+        ensures others { KeepsOtherPlaces place self.old.rows.items self.new.rows.items }
+        ensures counts { (self.new.conns ≡ self.old.conns) × (self.new.bytes ≡ self.old.bytes) }
+    {
+        if place >= self.rows.len() {
+            return false;
+        }
+        match &mut self.rows[place] {
+            Some(parked) => {
+                parked.is_ended = parked.is_ended || is_ended;
+                true
+            }
+            None => false,
+        }
+    }
+
     /// The next connection that a worker is to take, and its place.
-    pub fn next(&mut self) -> Option<(Parked, usize)> {
+    pub fn next(&mut self) -> Option<(Parked, usize)>
+        ensures first { IfSome result (λ given. self.old.ready.items ≡ given.1 ∷ self.new.ready.items) }
+        ensures stood { IfSome result (λ given. conn_at self.old.rows.items given.1 ≡ Some given.0) }
+        ensures rows { IfSome result (λ given. self.new.rows.items
+            ≡ slice_set self.old.rows.items given.1 None) }
+    {
         let place = self.ready.pop_front()?;
         Some((self.take(place)?, place))
     }
 
     /// Closes those that stand here too long, and has those taken whose heads are late.
-    pub fn sweep(&mut self, now: Instant, limits: &LobbyLimits) {
+    pub fn sweep(&mut self, now: Instant, limits: &LobbyLimits)
+        ensures { self.new.conns ≤ self.old.conns }
+    {
         for place in 0..self.rows.len() {
             match self.lot(place, now, limits) {
                 Lot::Stays => {}
@@ -147,8 +208,14 @@ impl Hall {
     }
 
     /// What becomes of what stands at a place.
-    fn lot(&mut self, place: usize, now: Instant, limits: &LobbyLimits) -> Lot {
-        let Some(Some(parked)) = self.rows.get_mut(place) else {
+    fn lot(&mut self, place: usize, now: Instant, limits: &LobbyLimits) -> Lot
+        ensures others { KeepsOtherPlaces place self.old.rows.items self.new.rows.items }
+        ensures counts { (self.new.conns ≡ self.old.conns) × (self.new.bytes ≡ self.old.bytes) }
+    {
+        if place >= self.rows.len() {
+            return Lot::Stays;
+        }
+        let Some(parked) = &mut self.rows[place] else {
             return Lot::Stays;
         };
         let lot = parked.lot(now, limits);
@@ -183,7 +250,9 @@ impl Hall {
 
     /// Closes the connection that stands here longest, of those whose next request hasn't come. Gives
     /// whether there was one.
-    pub fn close_oldest(&mut self, is_for_bytes: bool) -> bool {
+    pub fn close_oldest(&mut self, is_for_bytes: bool) -> bool
+        ensures { self.new.conns ≤ self.old.conns }
+    {
         for _ in 0..ASKED {
             let Some(place) = self.oldest(is_for_bytes) else {
                 return false;
@@ -198,12 +267,17 @@ impl Hall {
     }
 
     /// Makes room for one connection more. Gives whether there is.
-    pub fn make_place(&mut self, limits: &LobbyLimits) -> bool {
+    pub fn make_place(&mut self, limits: &LobbyLimits) -> bool
+        ensures { self.new.conns ≤ self.old.conns }
+    {
         self.conns < limits.conns || self.close_oldest(false)
     }
 
     /// Makes room for so many bytes more of heads that aren't whole. Gives whether there is.
-    pub fn make_byte_room(&mut self, limits: &LobbyLimits, held: u64) -> bool {
+    pub fn make_byte_room(&mut self, limits: &LobbyLimits, held: u64) -> bool
+        ensures conns { self.new.conns ≤ self.old.conns }
+        ensures room { OnTrue result (min (self.new.bytes + held) (2 ^ 64 - 1) ≤ limits.now.bytes) }
+    {
         for _ in 0..CLOSED {
             if self.bytes.saturating_add(held) <= limits.bytes {
                 return true;

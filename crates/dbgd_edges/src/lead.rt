@@ -1,5 +1,6 @@
 //! What a worker without work has: the listening socket, and the wait for all connections.
 
+ghost use Rattle.std.specs.Prelude.{◌≡◌, true, None, IfOk};
 ghost use Rattle.dbgd_edges.specs.Numbers.{ArePinnedBatches};
 
 use crate::accept_fault::AcceptFault;
@@ -37,7 +38,11 @@ pub struct Lead<L: Drop> {
 
 impl<L: AsRawFd + Drop> Lead<L> {
     /// The lead over a listening socket that waits for nothing.
-    pub fn new<R: Net>(net: &R, alloc: Global, listener: L) -> io::Result<Lead<L>> {
+    pub fn new<R: Net>(net: &R, alloc: Global, listener: L) -> io::Result<Lead<L>>
+        ensures listener { IfOk result (λ lead. lead.listener ≡ listener) }
+        ensures fresh { IfOk result (λ lead. (lead.comer ≡ None) × (lead.is_accepting ≡ true)
+            × (lead.swept ≡ None)) }
+    {
         let poll = Poll::new(net)?;
         let fd = listener.as_raw_fd();
         poll.registry()

@@ -87,7 +87,7 @@ fn differing<T: Tree<OpenWorld>>(
 }
 
 /// Reads of a file; those beyond its end aren't made.
-static READS: [(u64, usize, &str); 9] = [
+static READS: [(u64, usize, &str); 13] = [
     (0, 1, "same"),
     (0, 64, "same"),
     (20_000, 100, "same"),
@@ -95,6 +95,10 @@ static READS: [(u64, usize, &str); 9] = [
     (32_700, 69, "same"),
     (24_000, 8_000, "same"),
     (8_150, 100, "same"),
+    (0, 64, "same"),
+    (8_150, 100, "same"),
+    (8_200, 30_000, "same"),
+    (40_917, 2, "same"),
     (0, 32_768, "same"),
     (1, 65_536, "same"),
 ];
