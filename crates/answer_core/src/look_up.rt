@@ -13,7 +13,7 @@ use index_keeper::Keeper;
 use index_lock::{Seat, TurnLock};
 use index_rows::RowIter;
 use index_state::{State, show_index};
-use path_canon::is_under;
+use path_scope::is_under;
 use row_types::{BuildId, CanonPath, Kind, Truth};
 use std::alloc::{AllocError, Global};
 use std::sync::Wait;

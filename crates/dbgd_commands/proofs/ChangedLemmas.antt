@@ -1,6 +1,8 @@
 -- A scan that ends at a file that was another, or at one that appeared.
-use Rattle.std.proofs.Common.{◌≡◌, ℕ, Bool, List, None, refl}
+use Rattle.std.proofs.Common.{◌≡◌, Bool, true, List, None, refl}
+use Rattle.std.specs.List.{Contains}
 use Rattle.std.proofs.lemmas.List.Elements.{All-contains}
+use Rattle.path_scope.specs.Scope.{Scope, is_in_scope}
 use Rattle.row_types.specs.Canon.{IsCanonPath}
 use Rattle.row_types.specs.Name.{NameFacts, stamp_at}
 use Rattle.scan_queue.specs.declared.miss.Cause.{Cause}
@@ -21,21 +23,28 @@ IsChange ReadFault = ⊥
 IsChange (Altered met) = Unit {0}
 IsChange Appeared = Unit {0}
 
+-- a file that was found stands in the scope
+pub was_inside : {told : Bool} {version : Versions} {scope : Scope} {names : List NameFacts} {walk : Walk} {walked more : List Heard}
+    {before after : ShownTree} (name : NameFacts) → HearsPass told version scope names walk walked more before after
+    → Contains more (stat name.path (File name.stamp)) → is_in_scope scope name.path ≡ true
+was_inside {scope = scope} {names = names} {walk = walk} {more = more} name hears heard =
+    All-contains (MayBeAsked walk.listing (is_in_scope scope) names) more (stat name.path (File name.stamp)) hears.wanted heard
+
 -- where the hand tells files that never change, no listed file is another, and no file stands that isn't listed
-pub never_changed : {told : Bool} {version : Versions} {roots : List (List ℕ)} {names : List NameFacts} {walk : Walk}
+pub never_changed : {told : Bool} {version : Versions} {scope : Scope} {names : List NameFacts} {walk : Walk}
     {walked more : List Heard} {before after : ShownTree} (Failed : Type 0) (name : NameFacts) (cause : Cause)
-    → HearsPass told version roots names walk walked more before after → IsChange cause → IsCanonPath name.path
+    → HearsPass told version scope names walk walked more before after → IsChange cause → IsCanonPath name.path
     → IsBacked walk.listing names more Failed name cause → (cause ≡ Appeared → stamp_at walk.listing name.path ≡ None)
     → TellsStill told before → ⊥
 never_changed Failed name ReadFault hears change path why apart still = change
 never_changed {walk = walk} Failed name (Altered met) hears change path why apart still =
     never_other hears.walks still name met (stamp_listed name walk.listing hears.walks.whole.listing.by_path why.listed)
     (record { answer = why.answer; heard = why.heard; other = why.other })
-never_changed {roots = roots} {names = names} {walk = walk} {more = more} Failed name Appeared hears change path why apart still =
+never_changed Failed name Appeared hears change path why apart still =
     never_there hears.walks still name
     (record {
       short = path.short;
       unlisted = apart refl;
-      under = All-contains (MayBeAsked walk.listing roots names) more (stat name.path (File name.stamp)) hears.wanted why.seen.heard;
+      inside = was_inside name hears why.seen.heard;
     })
     why.seen.heard

@@ -11,6 +11,7 @@ use Rattle.std.proofs.lemmas.List.{length-map}
 use Rattle.std.proofs.lemmas.List.Elements.{All-contains}
 use Rattle.std.proofs.lemmas.List.Sums.{AllPass-from_list_all}
 use Rattle.std.proofs.lemmas.Slice.Eq.{bytes_eq-Decides}
+use Rattle.path_scope.specs.Scope.{Scope}
 use Rattle.row_types.specs.Name.{NameFacts, same_name}
 use Rattle.row_types.specs.Under.{front_under, lies_under}
 use Rattle.scan_queue.specs.Names.{IsByPath}
@@ -29,6 +30,7 @@ use Rattle.tree_trait.proofs.FolderLemmas.{front_of_longer, made_is_piece, start
 use Rattle.tree_walk.specs.Files.{AreFilesUnder, FitsFault, FolderFacts, HasManyEntries, HasManyFiles, IsFileUnder, IsFolderUnder}
 use Rattle.elf_forge.specs.Place.{forged_path, folder_at, forged_name, forged_names, numbers_below}
 use Rattle.elf_forge.proofs.FolderLemmas.{by_folder, folder_there, lies_in, some_files}
+use Rattle.dbgd_commands.specs.Trial.{forged_scope}
 use Rattle.dbgd_commands.proofs.CountLemmas.{as_many_at_most, has, has_it, once, weigh_at_most}
 
 long_below : (n : ℕ) → length (numbers_below n) ≡ n
@@ -57,22 +59,22 @@ by_path_once (name ∷ names) by =
     path_differs name (slice_index_or names k d) (by 0 (suc k) d (omega arith) (omega (arith, within))))))
     (by_path_once names (λ i j d before within. by (suc i) (suc j) d (omega (arith, before)) (omega (arith, within))))
 
-not_many_files : (seed files : ℕ) (roots : List (List ℕ)) → files ≤ 100000
-    → HasManyFiles (forged_names seed files) roots → ⊥
-not_many_files seed files roots few many =
+not_many_files : (seed files : ℕ) (scope : Scope) → files ≤ 100000
+    → HasManyFiles (forged_names seed files) scope → ⊥
+not_many_files seed files scope few many =
     let all : List NameFacts = forged_names seed files in
     let most = as_many_at_most same_name same_name-Decides many.names all (by_path_once many.names many.by_path)
     (λ name within. has_it same_name same_name-Decides all name
-    (All-contains (IsFileUnder all roots) many.names name many.each within).there) in
+    (All-contains (IsFileUnder all scope) many.names name many.each within).there) in
     let long = as_many_names seed files in
     let limit : LISTING_LIMIT ≡ 1048576 = refl in
     let over = many.many in
     omega (arith, few, most, long, limit, over)
 
 -- those under some folders are no more
-pub few_listed : (seed files : ℕ) (roots : List (List ℕ)) {listing : List NameFacts} → files ≤ 100000
-    → AreFilesUnder (forged_names seed files) roots listing → length listing ≤ 100000
-few_listed seed files roots {listing} few under =
+pub few_listed : (seed files : ℕ) (scope : Scope) {listing : List NameFacts} → files ≤ 100000
+    → AreFilesUnder (forged_names seed files) scope listing → length listing ≤ 100000
+few_listed seed files scope {listing} few under =
     let all : List NameFacts = forged_names seed files in
     let most = as_many_at_most same_name same_name-Decides listing all (by_path_once listing under.by_path)
     (λ name within. has_it same_name same_name-Decides all name ((under.all name).0 within).there) in
@@ -222,11 +224,11 @@ home_of seed files p (entry ∷ rest) listing some =
     (and_parts (is_there (forged_names seed files) p entry) (list_all (is_there (forged_names seed files) p) rest)
     listing.each).0
 
-not_many_entries : (seed files : ℕ) (roots : List (List ℕ)) → files ≤ 100000
-    → HasManyEntries (forged_names seed files) roots → ⊥
-not_many_entries seed files roots few many =
-    let each : (f : FolderFacts) → Contains many.folders f → IsFolderUnder (forged_names seed files) roots f
-    = λ f within. All-contains (IsFolderUnder (forged_names seed files) roots) many.folders f many.each within in
+not_many_entries : (seed files : ℕ) (scope : Scope) → files ≤ 100000
+    → HasManyEntries (forged_names seed files) scope → ⊥
+not_many_entries seed files scope few many =
+    let each : (f : FolderFacts) → Contains many.folders f → IsFolderUnder (forged_names seed files) scope f
+    = λ f within. All-contains (IsFolderUnder (forged_names seed files) scope) many.folders f many.each within in
     let most = weigh_at_most same_path same_path-Decides (λ (f : FolderFacts). f.path)
     (λ (f : FolderFacts). length f.entries) 100000
     many.folders homes (once_paths (map (λ (f : FolderFacts). f.path) many.folders) many.distinct)
@@ -254,11 +256,11 @@ root_there seed (suc n) path some is nothing =
 
 -- no walk of the folder ends at what is there
 pub walks_well : (seed files : ℕ) (fault : WalkFault) → 1 ≤ files → files ≤ 100000
-    → FitsFault (forged_names seed files) (codes "/t" ∷ []) fault → (fault ≡ stop.Failed) ⊎ (fault ≡ stop.OutOfMemory)
+    → FitsFault (forged_names seed files) forged_scope fault → (fault ≡ stop.Failed) ⊎ (fault ≡ stop.OutOfMemory)
 walks_well seed files stop.Failed some few fits = inl refl
 walks_well seed files stop.OutOfMemory some few fits = inr refl
-walks_well seed files stop.TooMany some few fits = absurd (not_many_files seed files (codes "/t" ∷ []) few fits)
+walks_well seed files stop.TooMany some few fits = absurd (not_many_files seed files forged_scope few fits)
 walks_well seed files stop.TooManyEntries some few fits =
-    absurd (not_many_entries seed files (codes "/t" ∷ []) few fits)
+    absurd (not_many_entries seed files forged_scope few fits)
 walks_well seed files (stop.RootGone path) some few fits =
     absurd (root_there seed files path some (only_one (codes "/t") path fits.0) fits.1)

@@ -4,6 +4,7 @@ use Rattle.std.specs.Prelude.{IsSome}
 use Rattle.std.specs.List.{AllZip, sum_by}
 use Rattle.std.proofs.lemmas.List.{drop-append-le, drop_min, length-append, length-take, take-append-drop}
 use Rattle.std.proofs.lemmas.List.Sums.{sum_by-append}
+use Rattle.path_scope.specs.Scope.{Scope}
 use Rattle.row_types.specs.Name.{NameFacts}
 use Rattle.row_types.specs.Row.{RowFacts}
 use Rattle.index_keeper.specs.Store.{ShownStore}
@@ -38,9 +39,9 @@ zip_beside R (hand ∷ hands) (later ∷ left) rest each zip = (zip.0, zip_besid
 idle : {T : Type 0} (s : Setting T) (listing : List NameFacts) (rows : List RowFacts) (one : T) → HelpsWith s listing rows one one
 idle s listing rows one = helps_none s.sees s.tells_files s.world.version listing (row_names rows) one
 
-module _ {T : Type 0} (s : Setting T) (roots : List (List ℕ)) (rest : List T) (hand later : T) (hands left : List T) (old new : ShownStore) where
+module _ {T : Type 0} (s : Setting T) (scope : Scope) (rest : List T) (hand later : T) (hands left : List T) (old new : ShownStore) where
   makes_beside : {Ends : List NameFacts → List Heard → List Change → List RowFacts → List RowFacts → List RowFacts → Type 0}
-      → MakesPass s roots (hand ∷ hands) (later ∷ left) old new Ends → MakesPass s roots ((hand ∷ hands) ++ rest) ((later ∷ left) ++ rest) old new Ends
+      → MakesPass s scope (hand ∷ hands) (later ∷ left) old new Ends → MakesPass s scope ((hand ∷ hands) ++ rest) ((later ∷ left) ++ rest) old new Ends
   makes_beside run = record {
     found = run.found;
     held = run.held;
@@ -61,8 +62,8 @@ module _ {T : Type 0} (s : Setting T) (roots : List (List ℕ)) (rest : List T) 
     ends = run.ends;
   }
 
-  helped_beside : {Ends : List RowFacts → Type 0} → EndsScanHelped s roots (hand ∷ hands) (later ∷ left) old new Ends
-      → EndsScanHelped s roots ((hand ∷ hands) ++ rest) ((later ∷ left) ++ rest) old new Ends
+  helped_beside : {Ends : List RowFacts → Type 0} → EndsScanHelped s scope (hand ∷ hands) (later ∷ left) old new Ends
+      → EndsScanHelped s scope ((hand ∷ hands) ++ rest) ((later ∷ left) ++ rest) old new Ends
   helped_beside run = record {
     found = run.found;
     held = run.held;
@@ -78,7 +79,7 @@ module _ {T : Type 0} (s : Setting T) (roots : List (List ℕ)) (rest : List T) 
     ends = run.ends;
   }
 
-  unbegun_beside : EndsUnbegun s roots (hand ∷ hands) (later ∷ left) old new → EndsUnbegun s roots ((hand ∷ hands) ++ rest) ((later ∷ left) ++ rest) old new
+  unbegun_beside : EndsUnbegun s scope (hand ∷ hands) (later ∷ left) old new → EndsUnbegun s scope ((hand ∷ hands) ++ rest) ((later ∷ left) ++ rest) old new
   unbegun_beside run = record {
     found = run.found;
     held = run.held;
@@ -101,8 +102,8 @@ module _ {T : Type 0} (s : Setting T) (roots : List (List ℕ)) (rest : List T) 
     made = run.made;
   }
 
-  passed_beside : (end : PassEnd) → EndsPassed s roots (hand ∷ hands) (later ∷ left) old new end
-      → EndsPassed s roots ((hand ∷ hands) ++ rest) ((later ∷ left) ++ rest) old new end
+  passed_beside : (end : PassEnd) → EndsPassed s scope (hand ∷ hands) (later ∷ left) old new end
+      → EndsPassed s scope ((hand ∷ hands) ++ rest) ((later ∷ left) ++ rest) old new end
   passed_beside (ended.Whole summary) run = makes_beside run
   passed_beside (ended.Missed miss) run = makes_beside run
   passed_beside (ended.Walk fault) run = walk_beside run
@@ -117,7 +118,7 @@ module _ {T : Type 0} (s : Setting T) (roots : List (List ℕ)) (rest : List T) 
   early_beside : (fault : OpenFault) → EndsScanEarly s (hand ∷ hands) (later ∷ left) old new fault → EndsScanEarly s ((hand ∷ hands) ++ rest) ((later ∷ left) ++ rest) old new fault
   early_beside fault run = record { hands = ap (λ (l : List T). l ++ rest) run.hands; store = run.store }
 
-  ends_beside : (end : ScanEnd) → EndsScan s roots (hand ∷ hands) (later ∷ left) old new end → EndsScan s roots ((hand ∷ hands) ++ rest) ((later ∷ left) ++ rest) old new end
+  ends_beside : (end : ScanEnd) → EndsScan s scope (hand ∷ hands) (later ∷ left) old new end → EndsScan s scope ((hand ∷ hands) ++ rest) ((later ∷ left) ++ rest) old new end
   ends_beside (Refused fault) run = early_beside fault run
   ends_beside (Passed end) run = passed_beside end run
 
@@ -158,14 +159,14 @@ First s end hand later = HandsOn s.tells_files s.world.version (s.sees hand) (s.
 abbrev Other : {T : Type 0} → Setting T → T → T → Type 0
 Other s hand later = HandsOn s.tells_files s.world.version (s.sees hand) (s.sees later) ⊥ ⊥
 
-module _ {T : Type 0} (s : Setting T) (path : List ℕ) {roots : List (List ℕ)} {old new : ShownStore} (end : ScanEnd) where
+module _ {T : Type 0} (s : Setting T) (path : List ℕ) {scope : Scope} {old new : ShownStore} (end : ScanEnd) where
   -- a scan that some of the hands were lent to is one of all of them
   scans_beside : (before after rest : List T) → (3 ≤ length (before ++ rest) → 3 ≤ length before)
-      → Scans s path roots before after old new end → Scans s path roots (before ++ rest) (after ++ rest) old new end
+      → Scans s path scope before after old new end → Scans s path scope (before ++ rest) (after ++ rest) old new end
   scans_beside (hand ∷ hands) (later ∷ left) rest enough scans =
       let same = goes_length (First s end) (Other s) (hand ∷ hands) (later ∷ left) scans.hands in
       record {
-        ends = ends_beside s roots rest hand later hands left old new end scans.ends;
+        ends = ends_beside s scope rest hand later hands left old new end scans.ends;
         loads = by_beside s.sees (hand ∷ hands) (later ∷ left) rest same enough end scans.loads;
         hands = (
           scans.hands.0,
@@ -181,14 +182,14 @@ module _ {T : Type 0} (s : Setting T) (path : List ℕ) {roots : List (List ℕ)
 
   -- so it is where the first ones were lent, three at least, or all
   pub scans_lent : (count n : ℕ) (hands left after : List T) → 3 ≤ count → n ≡ min count (length hands) → after ≡ left ++ drop n hands
-      → Scans s path roots (take n hands) left old new end → Scans s path roots hands after old new end
+      → Scans s path scope (take n hands) left old new end → Scans s path scope hands after old new end
   scans_lent count n hands left after some is all scans =
       let parts : take n hands ++ drop n hands ≡ hands = take-append-drop n hands in
       let long = length-take n hands in
       let enough : 3 ≤ length (take n hands ++ drop n hands) → 3 ≤ length (take n hands) = λ many.
       let whole = ap length parts in omega (arith, many, long, whole, some, is) in
-      subst (λ (back : List T). Scans s path roots hands back old new end) (sym all)
-      (subst (λ (lent : List T). Scans s path roots lent (left ++ drop n hands) old new end) parts
+      subst (λ (back : List T). Scans s path scope hands back old new end) (sym all)
+      (subst (λ (lent : List T). Scans s path scope lent (left ++ drop n hands) old new end) parts
       (scans_beside (take n hands) left (drop n hands) enough scans))
 
 -- the hands behind those that were lent are as they were

@@ -2,6 +2,7 @@
 use Rattle.std.proofs.Common.{◌≡◌, ◌⊎◌, inl, inr, ℕ, ◌+◌, ◌≤◌, Bool, true, false, List, ◌∷◌, ◌++◌, drop, Option, Some, Ok, length, refl, sym, ◌∙◌, ap, subst, arith, IsTrue}
 use Rattle.std.specs.List.{AllZip}
 use Rattle.std.proofs.lemmas.List.{length-map}
+use Rattle.path_scope.specs.Scope.{Scope}
 use Rattle.row_types.specs.Faults.{Rose}
 use Rattle.row_types.specs.Name.{NameFacts}
 use Rattle.row_types.specs.Row.{RowFacts}
@@ -145,10 +146,10 @@ module _ {K T : Type 0} (s : Setting T) {shows : K → ShownKeeper} {from into :
       → KeepsListed listing (current lent.opens.opened.rows) rows
   kept_by listing rows stays = subst (λ (from : List RowFacts). KeepsListed listing from rows) old_rows stays
 
-  unbegun : {roots : List (List ℕ)} {hand later : T} {hands left : List T} (walk : WalkFacts) → new ≡ old
-      → WalksTree s.tells_files (s.sees hand) (s.sees later) roots (Ok walk)
+  unbegun : {scope : Scope} {hand later : T} {hands left : List T} (walk : WalkFacts) → new ≡ old
+      → WalksTree s.tells_files (s.sees hand) (s.sees later) scope (Ok walk)
       → Aided walk.listing hands left
-      → EndsUnbegun s roots (hand ∷ hands) (later ∷ left) from into
+      → EndsUnbegun s scope (hand ∷ hands) (later ∷ left) from into
   unbegun {hands = hands} {left = left} walk same walks helps = record {
     found = lent.opens.opened.rows;
     held = held;
@@ -160,10 +161,10 @@ module _ {K T : Type 0} (s : Setting T) {shows : K → ShownKeeper} {from into :
     made = lent.back.made ∙ ap (λ (st : StateFacts K). (shows st.keeper).made) same ∙ swept_made;
   }
 
-  helped_on : {roots : List (List ℕ)} {listing : List NameFacts} {hand later : T} {hands left : List T} {count : ℕ} {Ends : Type 0}
-      {Into : List RowFacts → Type 0} (run : EndsBeside s.tells_files count roots listing (s.sees hand) (s.sees later) old new Ends)
+  helped_on : {scope : Scope} {listing : List NameFacts} {hand later : T} {hands left : List T} {count : ℕ} {Ends : Type 0}
+      {Into : List RowFacts → Type 0} (run : EndsBeside s.tells_files count scope listing (s.sees hand) (s.sees later) old new Ends)
       → Aided listing hands left
-      → Into new.rows → EndsScanHelped s roots (hand ∷ hands) (later ∷ left) from into Into
+      → Into new.rows → EndsScanHelped s scope (hand ∷ hands) (later ∷ left) from into Into
   helped_on {hands = hands} {left = left} {count = count} run helps ends =
       let stands = subst (λ (l : List NameFacts). IsHelped count l old new) (sym run.over) run.helped in
       record {
@@ -183,16 +184,16 @@ module _ {K T : Type 0} (s : Setting T) {shows : K → ShownKeeper} {from into :
         ends = ends;
       }
 
-  makes : {roots : List (List ℕ)} {listing : List NameFacts} {hand later : T} {hands left : List T}
+  makes : {scope : Scope} {listing : List NameFacts} {hand later : T} {hands left : List T}
       {Ends : StateFacts K → List Heard → Type 0}
       {Into : List NameFacts → List Heard → List Change → List RowFacts → List RowFacts → List RowFacts → Type 0}
-      (run : RunsPass s.world s.tells_files (length (hand ∷ hands)) roots listing (s.sees hand) (s.sees later) old new Ends)
+      (run : RunsPass s.world s.tells_files (length (hand ∷ hands)) scope listing (s.sees hand) (s.sees later) old new Ends)
       → Aided listing hands left
       → Into listing run.more holds.store_agrees_with_rows.since.since (current lent.opens.opened.rows) run.found.rows new.rows
-      → MakesPass s roots (hand ∷ hands) (later ∷ left) from into Into
-  makes {roots} {listing} {hand} {later} {hands} {left} {Into = Into} run helps ends =
+      → MakesPass s scope (hand ∷ hands) (later ∷ left) from into Into
+  makes {scope} {listing} {hand} {later} {hands} {left} {Into = Into} run helps ends =
       let stands = subst (λ (l : List NameFacts). IsHelped (length (hand ∷ hands)) l old run.found) (sym run.over) run.helped in
-      let leaves = subst (λ (l : List NameFacts). LeavesIndex roots l run.more (Rose (s.sees hand).faults (s.sees later).faults) run.found new)
+      let leaves = subst (λ (l : List NameFacts). LeavesIndex scope l run.more (Rose (s.sees hand).faults (s.sees later).faults) run.found new)
       (sym run.over) run.leaves in
       record {
         found = lent.opens.opened.rows;
@@ -235,25 +236,25 @@ module _ {K T : Type 0} (s : Setting T) {shows : K → ShownKeeper} {from into :
       omega (arith, full, bounded, long, void, plan)
 
   -- how the pass ended is how the scan does
-  ends_by : (roots : List (List ℕ)) (listing : List NameFacts) (hand later : T) (hands left : List T) (end : PassEnd) → HasMissedPath end
-      → EndsPass s.world s.tells_files s.tells_tables shows (length (hand ∷ hands)) roots listing (s.sees hand) (s.sees later) old new end
+  ends_by : (scope : Scope) (listing : List NameFacts) (hand later : T) (hands left : List T) (end : PassEnd) → HasMissedPath end
+      → EndsPass s.world s.tells_files s.tells_tables shows (length (hand ∷ hands)) scope listing (s.sees hand) (s.sees later) old new end
       → Aided listing hands left
-      → (IsTrue (is_unwalked end) → left ≡ hands) → EndsPassed s roots (hand ∷ hands) (later ∷ left) from into end
-  ends_by roots listing hand later hands left (ended.Whole summary) path run helps idle =
+      → (IsTrue (is_unwalked end) → left ≡ hands) → EndsPassed s scope (hand ∷ hands) (later ∷ left) from into end
+  ends_by scope listing hand later hands left (ended.Whole summary) path run helps idle =
       makes run helps (record {
         names = run.ends.complete.names;
         scan = run.ends.complete.scan;
         has = has_rows run.ends.sound;
         numbers = run.ends.numbers ∙ ap (λ names. summary_of (plan_of listing names) new.rows) old_names;
       })
-  ends_by roots listing hand later hands left (ended.Missed miss) path run helps idle =
+  ends_by scope listing hand later hands left (ended.Missed miss) path run helps idle =
       makes run helps (record { path = path; tells = run.ends.tells; has = has_rows run.ends.sound })
-  ends_by roots listing hand later hands left (ended.Walk fault) path ends helps idle =
+  ends_by scope listing hand later hands left (ended.Walk fault) path ends helps idle =
       in_walk ends.same (ends.stops, others_stay (idle refl))
-  ends_by roots listing hand later hands left ended.Broken path ends helps idle = absurd ends
-  ends_by roots listing hand later hands left ended.KeeperFault path (inl run) helps idle = inl (makes run helps (may_have run.ends))
-  ends_by roots listing hand later hands left ended.KeeperFault path (inr run) helps idle = inr (helped_on run helps (may_have run.ends))
-  ends_by roots listing hand later hands left ended.LogFull path run helps idle =
+  ends_by scope listing hand later hands left ended.Broken path ends helps idle = absurd ends
+  ends_by scope listing hand later hands left ended.KeeperFault path (inl run) helps idle = inl (makes run helps (may_have run.ends))
+  ends_by scope listing hand later hands left ended.KeeperFault path (inr run) helps idle = inr (helped_on run helps (may_have run.ends))
+  ends_by scope listing hand later hands left ended.LogFull path run helps idle =
       let since = holds.store_agrees_with_rows.since in
       let parts : new.log ≡ since.first ++ since.since = subst (λ b. lasting b new.log ≡ since.first ++ since.since) run.ends.sound since.parts in
       makes run helps (record {
@@ -269,31 +270,31 @@ module _ {K T : Type 0} (s : Setting T) {shows : K → ShownKeeper} {from into :
         many = many_changes listing run.ends.full run.ends.sound run.bounded;
         has = has_rows run.ends.sound;
       })
-  ends_by roots listing hand later hands left ended.OutOfMemory path (inl early) helps idle =
+  ends_by scope listing hand later hands left ended.OutOfMemory path (inl early) helps idle =
       inl (unbegun early.walk early.same early.walks
       (subst (λ (l : List NameFacts). Aided l hands left)
       (sym early.over) helps))
-  ends_by roots listing hand later hands left ended.OutOfMemory path (inr (inl run)) helps idle =
+  ends_by scope listing hand later hands left ended.OutOfMemory path (inr (inl run)) helps idle =
       inr (inl (makes run helps (has_rows run.ends)))
-  ends_by roots listing hand later hands left ended.OutOfMemory path (inr (inr run)) helps idle =
+  ends_by scope listing hand later hands left ended.OutOfMemory path (inr (inr run)) helps idle =
       inr (inr (helped_on run helps (has_rows run.ends)))
 
   -- the same of the hands in order
-  pub ends_go : (roots : List (List ℕ)) (listing : List NameFacts) (before after : List T) (end : PassEnd) → HasMissedPath end
+  pub ends_go : (scope : Scope) (listing : List NameFacts) (before after : List T) (end : PassEnd) → HasMissedPath end
       → HandsGo
-      (λ hand later. EndsPass s.world s.tells_files s.tells_tables shows (length before) roots listing (s.sees hand) (s.sees later) old new end)
+      (λ hand later. EndsPass s.world s.tells_files s.tells_tables shows (length before) scope listing (s.sees hand) (s.sees later) old new end)
       (λ hand later. Helps s.tells_files s.world.version listing (row_names old.rows) (s.sees hand) (s.sees later)) before after
-      → (IsTrue (is_unwalked end) → drop 1 after ≡ drop 1 before) → EndsPassed s roots before after from into end
-  ends_go roots listing (hand ∷ hands) (later ∷ left) end path goes idle = ends_by roots listing hand later hands left end path goes.0 goes.1 idle
-  ends_go roots listing _ _ end path goes idle = absurd goes
+      → (IsTrue (is_unwalked end) → drop 1 after ≡ drop 1 before) → EndsPassed s scope before after from into end
+  ends_go scope listing (hand ∷ hands) (later ∷ left) end path goes idle = ends_by scope listing hand later hands left end path goes.0 goes.1 idle
+  ends_go scope listing _ _ end path goes idle = absurd goes
 
 -- the end of a scan over an index that was opened on a keeper
-pub ends_passed : {K T : Type 0} (s : Setting T) (shows : K → ShownKeeper) (roots : List (List ℕ)) (before after : List T)
+pub ends_passed : {K T : Type 0} (s : Setting T) (shows : K → ShownKeeper) (scope : Scope) (before after : List T)
     {from mid into : ShownStore} {keeper given : K} {old : StateFacts K} (end : PassEnd)
-    → Opens s.tells_tables shows keeper old → ScansIndex s shows roots before after old given end
+    → Opens s.tells_tables shows keeper old → ScansIndex s shows scope before after old given end
     → HasAll s.tells_tables from (shows keeper)
-    → TakesKeeperBack s.tells_tables (shows given) mid into → EndsPassed s roots before after from into end
-ends_passed {K} s shows roots before after {mid = mid} {into = into} end opens scans has back =
+    → TakesKeeperBack s.tells_tables (shows given) mid into → EndsPassed s scope before after from into end
+ends_passed {K} s shows scope before after {mid = mid} {into = into} end opens scans has back =
     ends_go s
     (record { opens = opens; has = has; mid = mid; back = subst (λ (k : K). TakesKeeperBack s.tells_tables (shows k) mid into) scans.value back })
-    scans.holds roots scans.pass.0 before after end scans.path scans.pass.1 scans.idle
+    scans.holds scope scans.pass.0 before after end scans.path scans.pass.1 scans.idle

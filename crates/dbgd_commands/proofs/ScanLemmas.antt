@@ -1,6 +1,7 @@
 -- What the status of a scan says, by how it ended.
 use Rattle.std.proofs.Common.{◌≡◌, inl, inr, ℕ, ◌+◌, ◌<◌, List, Bool, length, sym, refl, subst, arith, IsTrue}
 use Rattle.std.specs.List.{Contains}
+use Rattle.path_scope.specs.Scope.{Scope}
 use Rattle.row_types.specs.Canon.{IsCanonPath}
 use Rattle.row_types.specs.Faults.{Rose}
 use Rattle.row_types.specs.Name.{NameFacts}
@@ -37,7 +38,7 @@ use Rattle.dbgd_commands.specs.declared.scan_end.ScanEnd.{ScanEnd}
 use Rattle.dbgd_commands.specs.declared.scan_end.ScanEnd.TheVariants.{Refused, Passed}
 use Rattle.dbgd_commands.specs.declared.status.Status.{Status}
 use Rattle.dbgd_commands.specs.declared.status.Status.TheVariants as status
-use Rattle.dbgd_commands.proofs.ChangedLemmas.{IsChange, never_changed}
+use Rattle.dbgd_commands.proofs.ChangedLemmas.{IsChange, never_changed, was_inside}
 use Rattle.dbgd_commands.proofs.HandLemmas.{both_first, first_both, of_first}
 use Rattle.dbgd_commands.proofs.RowLemmas.{first_held, none_bad, none_overfull, one_rows}
 
@@ -76,10 +77,10 @@ by_end P (Passed ended.LogFull) old new end said wants out whole = subst P (sym 
 by_end P (Passed ended.OutOfMemory) old new end said wants out whole = subst P (sym whole.ends) (said whole.out)
 
 -- of a name that was missed, as it was heard
-heard_other : {told : Bool} {version : Versions} {roots : List (List ℕ)} {names : List NameFacts} {walk : Walk} {walked more : List Heard}
+heard_other : {told : Bool} {version : Versions} {scope : Scope} {names : List NameFacts} {walk : Walk} {walked more : List Heard}
     {before after : ShownTree} (Failed : Type 0) (name : NameFacts) (why : Cause)
-    → HearsPass told version roots names walk walked more before after → IsChange why → IsCanonPath name.path
-    → IsMissTold (record { name = name; cause = why }) Failed walk.listing names more → HeardOtherFile told roots before after
+    → HearsPass told version scope names walk walked more before after → IsChange why → IsCanonPath name.path
+    → IsMissTold (record { name = name; cause = why }) Failed walk.listing names more → HeardOtherFile told scope before after
 heard_other {walk = walk} {walked = walked} {more = more} Failed name cause.ReadFault hears change path tells = absurd change
 heard_other {walk = walk} {walked = walked} {more = more} Failed name (cause.Altered met) hears change path tells = record {
   walk = walk;
@@ -100,13 +101,17 @@ heard_other {walk = walk} {walked = walked} {more = more} Failed name cause.Appe
   whole = hears.walks.whole;
   name = name;
   cause = cause.Appeared;
-  why = record { unlisted = tells.apart refl; heard = tells.why.seen.heard };
+  why = record {
+    inside = was_inside name hears tells.why.seen.heard;
+    unlisted = tells.apart refl;
+    heard = tells.why.seen.heard;
+  };
   still = never_changed Failed name cause.Appeared hears tt path tells.why tells.apart;
 }
 
-module _ {T : Type 0} (s : Setting T) (path : List ℕ) (roots : List (List ℕ)) (before after : CommandStage T) where
+module _ {T : Type 0} (s : Setting T) (path : List ℕ) (scope : Scope) (before after : CommandStage T) where
   abbrev ScansTo : ScanEnd → Type 0
-  ScansTo end = Scans s path roots before.hands after.hands before.store after.store end
+  ScansTo end = Scans s path scope before.hands after.hands before.store after.store end
 
   -- the first hand's call failed
   hand_rose : (end : ScanEnd) → ScansTo end → IsTrue (is_first_hand_fault end) → FirstRose s before.hands after.hands
@@ -118,30 +123,30 @@ module _ {T : Type 0} (s : Setting T) (path : List ℕ) (roots : List (List ℕ)
 
   -- what the first hand heard of a walk that ended with a fault
   walk_heard : (fault : WalkFault) (Holds : ShownTree → ShownTree → Type 0) → ScansTo (Passed (ended.Walk fault))
-      → ((b a : ShownTree) → WalksInto s.tells_files roots fault b a → Holds b a)
+      → ((b a : ShownTree) → WalksInto s.tells_files scope fault b a → Holds b a)
       → OfFirst s Holds before.hands after.hands
   walk_heard fault Holds scans each =
-      of_first s (λ hand later. WalksInto s.tells_files roots fault (s.sees hand) (s.sees later))
+      of_first s (λ hand later. WalksInto s.tells_files scope fault (s.sees hand) (s.sees later))
       (λ hand left. left ≡ hand) Holds before.hands after.hands
       (λ hand later walked. each (s.sees hand) (s.sees later) walked) scans.ends.hands
 
   -- what it heard of a file that is another by now
   other_heard : (name : NameFacts) (why : Cause) → IsChange why
       → {Ends : List NameFacts → List Heard → List Change → List RowFacts → List RowFacts → List RowFacts → Type 0}
-      → (pass : MakesPass s roots before.hands after.hands before.store after.store Ends) → IsCanonPath name.path
+      → (pass : MakesPass s scope before.hands after.hands before.store after.store Ends) → IsCanonPath name.path
       → IsMissTold (record { name = name; cause = why }) (FirstRose s before.hands after.hands) pass.walk.listing (row_names pass.met)
       pass.more
-      → OfFirst s (HeardOtherFile s.tells_files roots) before.hands after.hands
+      → OfFirst s (HeardOtherFile s.tells_files scope) before.hands after.hands
   other_heard name why change pass path tells =
       of_first s
-      (λ hand later. HearsPass s.tells_files s.world.version roots (row_names pass.met) pass.walk pass.walked pass.more (s.sees hand) (s.sees later))
+      (λ hand later. HearsPass s.tells_files s.world.version scope (row_names pass.met) pass.walk pass.walked pass.more (s.sees hand) (s.sees later))
       (HelpsWith s pass.walk.listing (current pass.found))
-      (HeardOtherFile s.tells_files roots) before.hands after.hands
+      (HeardOtherFile s.tells_files scope) before.hands after.hands
       (λ hand later hears. heard_other (FirstRose s before.hands after.hands) name why hears change path tells) pass.hands
 
   -- what the status of a missed name says
   miss_status : (name : NameFacts) (why : Cause) → ScansTo (Passed (ended.Missed (record { name = name; cause = why })))
-      → ScanStatus s roots before after (miss_saying name why).status
+      → ScanStatus s scope before after (miss_saying name why).status
   miss_status name cause.ReadFault scans = inr (inl scans.ends.ends.tells.why)
   miss_status name (cause.Altered met) scans =
       other_heard name (cause.Altered met) tt scans.ends scans.ends.ends.path scans.ends.ends.tells
@@ -150,7 +155,7 @@ module _ {T : Type 0} (s : Setting T) (path : List ℕ) (roots : List (List ℕ)
 
   -- what the status of a scan's end says
   end_status : (end : ScanEnd) → ScansTo end → GetsAll (scan_saying end).out before.streams.out after.streams.out
-      → ScanStatus s roots before after (scan_saying end).status
+      → ScanStatus s scope before after (scan_saying end).status
   end_status (Refused refusal.KeeperFault) scans said = inl (scans.store.rose refl)
   end_status (Refused (refusal.BadRow kept fault)) scans said = record {
     opened = scans.opened refl;
@@ -171,21 +176,21 @@ module _ {T : Type 0} (s : Setting T) (path : List ℕ) (roots : List (List ℕ)
   end_status (Passed (ended.Walk stop.Failed)) scans said =
       inr (inl (hand_rose (Passed (ended.Walk stop.Failed)) scans refl))
   end_status (Passed (ended.Walk stop.TooMany)) scans said =
-      of_walk (walk_heard stop.TooMany (HeardMany s.tells_files roots) scans (λ b a w. record {
+      of_walk (walk_heard stop.TooMany (HeardMany s.tells_files scope) scans (λ b a w. record {
         answers = w.walks.goes.more;
         heard = w.walks.goes.heard;
         many = inl w.walks.goes.ends;
         still = λ still. inl (w.fits still);
       }))
   end_status (Passed (ended.Walk stop.TooManyEntries)) scans said =
-      of_walk (walk_heard stop.TooManyEntries (HeardMany s.tells_files roots) scans (λ b a w. record {
+      of_walk (walk_heard stop.TooManyEntries (HeardMany s.tells_files scope) scans (λ b a w. record {
         answers = w.walks.goes.more;
         heard = w.walks.goes.heard;
         many = inr w.walks.goes.ends;
         still = λ still. inr (w.fits still);
       }))
   end_status (Passed (ended.Walk (stop.RootGone root))) scans said =
-      walk_heard (stop.RootGone root) (HeardGone s.tells_files roots) scans (λ b a w. record {
+      walk_heard (stop.RootGone root) (HeardGone s.tells_files scope) scans (λ b a w. record {
         answers = w.walks.goes.more;
         path = root;
         heard = w.walks.goes.heard;
@@ -198,13 +203,13 @@ module _ {T : Type 0} (s : Setting T) (path : List ℕ) (roots : List (List ℕ)
   end_status (Passed ended.LogFull) scans said = of_changes scans.ends
   end_status (Passed ended.OutOfMemory) scans said = tt
 
-  pub scan_status : (workers : ℕ) (end : Status) → RunsScan s path workers roots before after end → ScanStatus s roots before after end
+  pub scan_status : (workers : ℕ) (end : Status) → RunsScan s path workers scope before after end → ScanStatus s scope before after end
   scan_status workers end run =
-      by_end (ScanStatus s roots before after) run.end before.streams after.streams end (end_status run.end run.scans) tt
+      by_end (ScanStatus s scope before after) run.end before.streams after.streams end (end_status run.end run.scans) tt
       (λ summary whole rose. inr (inr rose)) run.said
 
   -- the rows that were found
-  found_rows : (end : PassEnd) → EndsPassed s roots before.hands after.hands before.store after.store end
+  found_rows : (end : PassEnd) → EndsPassed s scope before.hands after.hands before.store after.store end
       → (rows : List RowFacts) × StoreHoldsRows s.tells_tables before.store rows
   found_rows (ended.Whole summary) ends = (ends.found, ends.held)
   found_rows (ended.Missed miss) ends = (ends.found, ends.held)
@@ -219,7 +224,7 @@ module _ {T : Type 0} (s : Setting T) (path : List ℕ) (roots : List (List ℕ)
 
   -- where the store tells, they are its tables
   told_rows : (end : PassEnd) → IsTrue s.tells_tables
-      → (ends : EndsPassed s roots before.hands after.hands before.store after.store end)
+      → (ends : EndsPassed s scope before.hands after.hands before.store after.store end)
       → AreRows (found_rows end ends).0 before.store.tables
   told_rows end tells ends =
       subst (λ values. AreRows (found_rows end ends).0 values) ((found_rows end ends).1.gave.tells tells) (found_rows end ends).1.sound
@@ -248,39 +253,39 @@ module _ {T : Type 0} (s : Setting T) (path : List ℕ) (roots : List (List ℕ)
       absurd (none_overfull (told_rows end tells scans.ends) (found_rows end scans.ends).1.few full)
 
   -- where nothing stands against it a name is missed by nothing
-  never_missed : (name : NameFacts) (why : Cause) → IsUnhindered s roots before after
+  never_missed : (name : NameFacts) (why : Cause) → IsUnhindered s scope before after
       → ScansTo (Passed (ended.Missed (record { name = name; cause = why }))) → ⊥
   never_missed name cause.ReadFault free scans =
-      both_first s (IsFreeHand s.tells_files roots) (λ b a. Rose b.faults a.faults) before.hands after.hands free.hand scans.ends.ends.tells.why
+      both_first s (IsFreeHand s.tells_files scope) (λ b a. Rose b.faults a.faults) before.hands after.hands free.hand scans.ends.ends.tells.why
       (λ b a hand rose. hand.faultless rose)
   never_missed name (cause.Altered met) free scans =
-      both_first s (IsFreeHand s.tells_files roots) (HeardOtherFile s.tells_files roots) before.hands after.hands free.hand
+      both_first s (IsFreeHand s.tells_files scope) (HeardOtherFile s.tells_files scope) before.hands after.hands free.hand
       (other_heard name (cause.Altered met) tt scans.ends scans.ends.ends.path scans.ends.ends.tells)
       (λ b a hand heard. heard.still hand.still)
   never_missed name cause.Appeared free scans =
-      both_first s (IsFreeHand s.tells_files roots) (HeardOtherFile s.tells_files roots) before.hands after.hands free.hand
+      both_first s (IsFreeHand s.tells_files scope) (HeardOtherFile s.tells_files scope) before.hands after.hands free.hand
       (other_heard name cause.Appeared tt scans.ends scans.ends.ends.path scans.ends.ends.tells)
       (λ b a hand heard. heard.still hand.still)
 
   -- nor does a walk end with a fault
-  never_walk : (fault : WalkFault) → IsUnhindered s roots before after → ScansTo (Passed (ended.Walk fault))
-      → ((b a : ShownTree) → IsFreeHand s.tells_files roots b a → FitsFault b.present roots fault → ⊥) → ⊥
+  never_walk : (fault : WalkFault) → IsUnhindered s scope before after → ScansTo (Passed (ended.Walk fault))
+      → ((b a : ShownTree) → IsFreeHand s.tells_files scope b a → FitsFault b.present scope fault → ⊥) → ⊥
   never_walk fault free scans never =
-      both_first s (IsFreeHand s.tells_files roots) (WalksInto s.tells_files roots fault) before.hands after.hands free.hand
-      (walk_heard fault (WalksInto s.tells_files roots fault) scans (λ b a w. w))
+      both_first s (IsFreeHand s.tells_files scope) (WalksInto s.tells_files scope fault) before.hands after.hands free.hand
+      (walk_heard fault (WalksInto s.tells_files scope fault) scans (λ b a w. w))
       (λ b a hand w. never b a hand (w.fits hand.still))
 
   -- nor has its log no room
-  never_full : IsUnhindered s roots before after → ScansTo (Passed ended.LogFull) → ⊥
+  never_full : IsUnhindered s scope before after → ScansTo (Passed ended.LogFull) → ⊥
   never_full free scans =
       let ends = scans.ends in
-      let under : OfFirst s (λ hand later. AreFilesUnder hand.present roots ends.walk.listing) before.hands after.hands =
-      first_both s (IsFreeHand s.tells_files roots) (λ b a. TellsStill s.tells_files b → AreFilesUnder b.present roots ends.walk.listing)
-      (λ b a. AreFilesUnder b.present roots ends.walk.listing) before.hands after.hands free.hand
+      let under : OfFirst s (λ hand later. AreFilesUnder hand.present scope ends.walk.listing) before.hands after.hands =
+      first_both s (IsFreeHand s.tells_files scope) (λ b a. TellsStill s.tells_files b → AreFilesUnder b.present scope ends.walk.listing)
+      (λ b a. AreFilesUnder b.present scope ends.walk.listing) before.hands after.hands free.hand
       (of_first s
-      (λ hand later. HearsPass s.tells_files s.world.version roots (row_names ends.met) ends.walk ends.walked ends.more (s.sees hand) (s.sees later))
+      (λ hand later. HearsPass s.tells_files s.world.version scope (row_names ends.met) ends.walk ends.walked ends.more (s.sees hand) (s.sees later))
       (HelpsWith s ends.walk.listing (current ends.found))
-      (λ b a. TellsStill s.tells_files b → AreFilesUnder b.present roots ends.walk.listing) before.hands after.hands
+      (λ b a. TellsStill s.tells_files b → AreFilesUnder b.present scope ends.walk.listing) before.hands after.hands
       (λ hand later hears. hears.walks.under) ends.hands)
       (λ b a hand so. so hand.still) in
       let same : free.rows ≡ ends.found =
@@ -291,7 +296,7 @@ module _ {T : Type 0} (s : Setting T) (path : List ℕ) (roots : List (List ℕ)
       omega (arith, room, many)
 
   -- so it is done, or memory is wanted
-  complete_end : (end : ScanEnd) → IsUnhindered s roots before after → ScansTo end
+  complete_end : (end : ScanEnd) → IsUnhindered s scope before after → ScansTo end
       → IsComplete (scan_saying end).status
   complete_end (Refused refusal.KeeperFault) free scans = absurd (free.store (scans.store.rose refl))
   complete_end (Refused (refusal.BadRow kept fault)) free scans =
@@ -304,7 +309,7 @@ module _ {T : Type 0} (s : Setting T) (path : List ℕ) (roots : List (List ℕ)
   complete_end (Passed (ended.Whole summary)) free scans = tt
   complete_end (Passed (ended.Missed miss)) free scans = absurd (never_missed miss.name miss.cause free scans)
   complete_end (Passed (ended.Walk stop.Failed)) free scans =
-      absurd (both_first s (IsFreeHand s.tells_files roots) (λ b a. Rose b.faults a.faults) before.hands after.hands free.hand
+      absurd (both_first s (IsFreeHand s.tells_files scope) (λ b a. Rose b.faults a.faults) before.hands after.hands free.hand
       (hand_rose (Passed (ended.Walk stop.Failed)) scans refl) (λ b a hand rose. hand.faultless rose))
   complete_end (Passed (ended.Walk stop.TooMany)) free scans =
       absurd (never_walk stop.TooMany free scans (λ b a hand fits. hand.files fits))
@@ -320,7 +325,7 @@ module _ {T : Type 0} (s : Setting T) (path : List ℕ) (roots : List (List ℕ)
   complete_end (Passed ended.OutOfMemory) free scans = tt
 
   -- how a scan ends when
-  pub scan_ends : (workers : ℕ) (end : Status) → RunsScan s path workers roots before after end → ScanEnds s roots before after end
+  pub scan_ends : (workers : ℕ) (end : Status) → RunsScan s path workers scope before after end → ScanEnds s scope before after end
   unfolding found_rows
   scan_ends workers end run = record {
     bad = λ tells bad.

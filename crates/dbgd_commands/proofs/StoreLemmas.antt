@@ -2,6 +2,7 @@
 use Rattle.std.proofs.Common.{◌≡◌, ◌⊎◌, inl, inr, ℕ, ◌<◌, Bool, List, [], ◌∷◌, length, Option, Some, None, sym, refl, ◌∙◌, ap, subst, IsTrue, arith}
 use Rattle.std.proofs.lemmas.Bool.{true≢false}
 use Rattle.std.proofs.lemmas.List.{append-nil}
+use Rattle.path_scope.specs.Scope.{Scope}
 use Rattle.row_types.specs.Faults.{Rose, summed}
 use Rattle.row_types.specs.Row.{RowFacts}
 use Rattle.index_keeper.specs.Answers.{for_rows}
@@ -144,10 +145,10 @@ opens_once path old new (Refused (refusal.BadRow kept fault)) h = h
 opens_once path old new (Refused refusal.LogFull) h = h
 opens_once path old new (Passed end) h = h
 
-module _ {T : Type 0} (s : Setting T) (path : List ℕ) {roots : List (List ℕ)} where
+module _ {T : Type 0} (s : Setting T) (path : List ℕ) {scope : Scope} where
   -- memory was refused before the store was opened
   pub scans_wanting : {hands : List T} {old new : ShownStore} → 0 < length hands → new ≡ old
-      → Scans s path roots hands hands old new (Refused refusal.OutOfMemory)
+      → Scans s path scope hands hands old new (Refused refusal.OutOfMemory)
   scans_wanting {hands} {old} {new} some same = record {
     ends = record {
       hands = refl;
@@ -168,7 +169,7 @@ module _ {T : Type 0} (s : Setting T) (path : List ℕ) {roots : List (List ℕ)
 
   -- the store failed to be opened
   pub scans_closed : {hands : List T} {old new : ShownStore} → 0 < length hands → FailsToOpen s.tells_tables path old new
-      → Scans s path roots hands hands old new (Refused refusal.KeeperFault)
+      → Scans s path scope hands hands old new (Refused refusal.KeeperFault)
   scans_closed {hands} {old} some closed = record {
     ends = record {
       hands = refl;
@@ -185,11 +186,11 @@ module _ {T : Type 0} (s : Setting T) (path : List ℕ) {roots : List (List ℕ)
   -- the store was opened, and had its keeper back in the end
   pub scans_opened : {before after : List T} {old mid new : ShownStore} {keeper given : ShownKeeper} (end : ScanEnd)
       → IsOpened s.tells_tables path old mid keeper → TakesKeeperBack s.tells_tables given mid new
-      → EndsScan s roots before after old new end
+      → EndsScan s scope before after old new end
       → HandsGo (λ hand later. HandsOn s.tells_files s.world.version (s.sees hand) (s.sees later) ⊥ (IsTrue (is_first_hand_fault end)))
       (λ hand later. HandsOn s.tells_files s.world.version (s.sees hand) (s.sees later) ⊥ ⊥) before after
       → LoadsBy s.sees before after end → (IsTrue (is_store_fault end) → 0 < given.faults)
-      → Scans s path roots before after old new end
+      → Scans s path scope before after old new end
   scans_opened {old = old} {new = new} end opened back ends hands loads counted = record {
     ends = ends;
     loads = loads;

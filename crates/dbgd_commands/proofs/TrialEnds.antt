@@ -1,8 +1,9 @@
 -- How a pass over the generated files ends.
-use Rattle.std.proofs.Common.{◌≡◌, inl, inr, ℕ, ◌<◌, ◌≤◌, Bool, true, false, List, [], ◌∷◌, None, length}
+use Rattle.std.proofs.Common.{◌≡◌, inl, inr, ℕ, ◌<◌, ◌≤◌, Bool, true, false, List, None, length}
 use Rattle.std.proofs.Common.{refl, sym, ◌∙◌, ap, subst, arith, IsTrue}
 use Rattle.std.specs.Prelude.{is_none, replicate}
 use Rattle.std.proofs.lemmas.List.Sums.{count_by-le-length}
+use Rattle.path_scope.specs.Scope.{Scope}
 use Rattle.row_types.specs.Canon.{IsCanonPath}
 use Rattle.row_types.specs.Faults.{Rose}
 use Rattle.row_types.specs.Name.{NameFacts, stamp_at}
@@ -29,7 +30,7 @@ use Rattle.pass_runner.specs.declared.pass_end.PassEnd.{PassEnd}
 use Rattle.pass_runner.specs.declared.pass_end.PassEnd.TheVariants as ended
 use Rattle.pass_runner.specs.declared.summary.Summary.{Summary}
 use Rattle.dbgd_commands.specs.Passing.{HasMissedPath}
-use Rattle.dbgd_commands.specs.Trial.{HasScanned, forged_root}
+use Rattle.dbgd_commands.specs.Trial.{HasScanned, forged_scope}
 use Rattle.dbgd_commands.specs.TrialKeeper.{shown_sure}
 use Rattle.dbgd_commands.specs.TrialPass.{EndsWell, IsNewIndex}
 use Rattle.dbgd_commands.proofs.ChangedLemmas.{never_changed}
@@ -45,15 +46,15 @@ not_rose : Rose 0 0 → ⊥
 not_rose rose = absurd (omega (arith, rose))
 
 -- how a pass of a hand over these folders ended
-abbrev Passes : ℕ → List (List ℕ) → List NameFacts → StateFacts MemKeeperFacts → StateFacts MemKeeperFacts → PassEnd
+abbrev Passes : ℕ → Scope → List NameFacts → StateFacts MemKeeperFacts → StateFacts MemKeeperFacts → PassEnd
     → ForgeFacts → ForgeFacts → Type 0
-Passes count roots listing old new end hand later =
-    EndsPass open_rules true true shown_sure count roots listing (forge_shows hand) (forge_shows later) old new end
+Passes count scope listing old new end hand later =
+    EndsPass open_rules true true shown_sure count scope listing (forge_shows hand) (forge_shows later) old new end
 
 -- how the hand goes on
-abbrev Goes : List (List ℕ) → PassEnd → ForgeFacts → ForgeFacts → Type 0
-Goes roots end hand later =
-    HandsOn true open_rules.version (forge_shows hand) (forge_shows later) (0 < length roots) (IsTrue (is_hand_fault end))
+abbrev Goes : Scope → PassEnd → ForgeFacts → ForgeFacts → Type 0
+Goes scope end hand later =
+    HandsOn true open_rules.version (forge_shows hand) (forge_shows later) (0 < length scope.roots) (IsTrue (is_hand_fault end))
 
 -- and the others
 abbrev Aids : List NameFacts → StateFacts MemKeeperFacts → ForgeFacts → ForgeFacts → Type 0
@@ -67,30 +68,30 @@ Stays hand later = HandsOn true open_rules.version (forge_shows hand) (forge_sho
 pub record PassesForged (seed files count : ℕ) (old new : StateFacts MemKeeperFacts) (end : PassEnd) : Type 0 where
   pub later : ForgeFacts
   pub listing : List NameFacts
-  pub ends : Passes count (forged_root ∷ []) listing old new end (fresh_forge seed files) later
-  pub goes : Goes (forged_root ∷ []) end (fresh_forge seed files) later
+  pub ends : Passes count forged_scope listing old new end (fresh_forge seed files) later
+  pub goes : Goes forged_scope end (fresh_forge seed files) later
 
 -- the first of some hands that all began alike
-pub first_hand : (seed files many : ℕ) {count : ℕ} {roots : List (List ℕ)} {old new : StateFacts MemKeeperFacts}
+pub first_hand : (seed files many : ℕ) {count : ℕ} {scope : Scope} {old new : StateFacts MemKeeperFacts}
     {end : PassEnd} (hands left : List ForgeFacts) → hands ≡ replicate many (fresh_forge seed files) → 1 ≤ many
-    → roots ≡ forged_root ∷ []
-    → ((listing : List NameFacts) × HandsGo (Passes count roots listing old new end) (Aids listing old) hands left)
-    → HandsGo (Goes roots end) Stays hands left → PassesForged seed files count old new end
-first_hand seed files many {count} {roots} {old} {new} {end} hands left alike some at pass goes =
-    let one = first_of_alike (Passes count roots pass.0 old new end) (Aids pass.0 old) (Goes roots end) Stays
+    → scope ≡ forged_scope
+    → ((listing : List NameFacts) × HandsGo (Passes count scope listing old new end) (Aids listing old) hands left)
+    → HandsGo (Goes scope end) Stays hands left → PassesForged seed files count old new end
+first_hand seed files many {count} {scope} {old} {new} {end} hands left alike some at pass goes =
+    let one = first_of_alike (Passes count scope pass.0 old new end) (Aids pass.0 old) (Goes scope end) Stays
     (fresh_forge seed files) many left some
-    (subst (λ hs. HandsGo (Passes count roots pass.0 old new end) (Aids pass.0 old) hs left) alike pass.1)
-    (subst (λ hs. HandsGo (Goes roots end) Stays hs left) alike goes) in
+    (subst (λ hs. HandsGo (Passes count scope pass.0 old new end) (Aids pass.0 old) hs left) alike pass.1)
+    (subst (λ hs. HandsGo (Goes scope end) Stays hs left) alike goes) in
     record {
       later = one.0;
       listing = pass.0;
-      ends = subst (λ rs. Passes count rs pass.0 old new end (fresh_forge seed files) one.0) at one.1;
-      goes = subst (λ rs. Goes rs end (fresh_forge seed files) one.0) at one.2;
+      ends = subst (λ sc. Passes count sc pass.0 old new end (fresh_forge seed files) one.0) at one.1;
+      goes = subst (λ sc. Goes sc end (fresh_forge seed files) one.0) at one.2;
     }
 
 module _ (seed files count : ℕ) (old new : StateFacts MemKeeperFacts) where
   abbrev EndsForged : ForgeFacts → List NameFacts → PassEnd → Type 0
-  EndsForged later listing end = Passes count (forged_root ∷ []) listing old new end (fresh_forge seed files) later
+  EndsForged later listing end = Passes count forged_scope listing old new end (fresh_forge seed files) later
 
   -- no name is missed
   none_missed : (later : ForgeFacts) (listing : List NameFacts) (miss : Miss) → IsCanonPath miss.name.path
@@ -116,8 +117,8 @@ module _ (seed files count : ℕ) (old new : StateFacts MemKeeperFacts) where
       let added = count_by-le-length (λ (name : NameFacts). is_none (stamp_at (row_names old.rows) name.path)) listing in
       let replaced = count_by-le-length (λ (name : NameFacts). is_other (stamp_at (row_names old.rows) name.path) name.stamp) listing in
       let many : length listing ≤ 100000 =
-      few_listed seed files (forged_root ∷ []) few
-      (subst (AreFilesUnder (forged_names seed files) (forged_root ∷ [])) run.over (run.hears.walks.under (refl, tt))) in
+      few_listed seed files forged_scope few
+      (subst (AreFilesUnder (forged_names seed files) forged_scope) run.over (run.hears.walks.under (refl, tt))) in
       let void : voids new.broken ≡ 0 = ap (λ (b : Bool). voids b) run.ends.sound in
       let bounded = run.bounded in
       let full = run.ends.full in
@@ -147,7 +148,7 @@ module _ (seed files count : ℕ) (old new : StateFacts MemKeeperFacts) where
   whole later listing summary holds run = record {
     rows_are = record {
       names =
-          subst (AreFilesUnder (forged_names seed files) (forged_root ∷ [])) (run.over ∙ sym run.ends.complete.names)
+          subst (AreFilesUnder (forged_names seed files) forged_scope) (run.over ∙ sym run.ends.complete.names)
           (run.hears.walks.under (refl, tt));
       sound = holds.rows_sorted_and_true;
     };

@@ -1,5 +1,6 @@
 -- The pass of a scan, by the index that makes it (this crate's bookkeeping, which no public clause cites).
-use Rattle.std.specs.Prelude.{◌≡◌, ℕ, Bool, List, drop, length, IsTrue}
+use Rattle.std.specs.Prelude.{◌≡◌, Bool, List, drop, length, IsTrue}
+use Rattle.path_scope.specs.Scope.{Scope}
 use Rattle.row_types.specs.Canon.{IsCanonPath}
 use Rattle.row_types.specs.Name.{NameFacts}
 use Rattle.index_keeper.specs.Keeper.{ShownKeeper}
@@ -20,7 +21,7 @@ HasMissedPath _ = Unit {0}
 
 -- the index made its pass with these hands, and then handed its keeper out
 pub record ScansIndex {K T : Type 0} (s : Setting T) (shows : K → ShownKeeper)
-    (roots : List (List ℕ)) (before after : List T) (old : StateFacts K) (keeper : K)
+    (scope : Scope) (before after : List T) (old : StateFacts K) (keeper : K)
     (end : PassEnd) : Type 0 where
   pub new : StateFacts K
   pub value : keeper ≡ new.keeper
@@ -28,7 +29,7 @@ pub record ScansIndex {K T : Type 0} (s : Setting T) (shows : K → ShownKeeper)
   pub holds : IndexInvariant s.world.true_row s.tells_tables shows new
   pub pass :
       (listing : List NameFacts) × HandsGo
-      (λ hand later. EndsPass s.world s.tells_files s.tells_tables shows (length before) roots
+      (λ hand later. EndsPass s.world s.tells_files s.tells_tables shows (length before) scope
       listing (s.sees hand) (s.sees later) old new end)
       (λ hand later. Helps s.tells_files s.world.version listing (row_names old.rows)
       (s.sees hand) (s.sees later)) before after

@@ -1,7 +1,8 @@
--- The command `scan` (this project's rule): the store is opened, the index on it makes one pass over the folders, and
--- the store has its keeper back. The rows that the store held and those that it has in the end are what the pass is
--- said of.
+-- The command `scan` (this project's rule): the store is opened, the index on it makes one pass over the scope, which is the
+-- selected files under the folders, and the store has its keeper back. The rows that the store held and those that it has in the
+-- end are what the pass is said of.
 use Rattle.std.specs.Prelude.{◌≡◌, ◌≢◌, ◌⊎◌, ℕ, ◌+◌, ◌≤◌, Bool, true, List, ◌++◌, drop, length, IsTrue, Ok}
+use Rattle.path_scope.specs.Scope.{Scope, is_in_scope}
 use Rattle.row_types.specs.Canon.{IsCanonPath}
 use Rattle.row_types.specs.Faults.{HasCause, Rose}
 use Rattle.row_types.specs.Name.{NameFacts}
@@ -77,20 +78,20 @@ HelpsWith s listing rows hand later =
     Helps s.tells_files s.world.version listing (row_names rows) (s.sees hand) (s.sees later)
 
 -- the walk was whole, and memory was refused before the pass began: the store has the rows of the edition that it held
-pub record EndsUnbegun {T : Type 0} (s : Setting T) (roots : List (List ℕ)) (before after : List T)
+pub record EndsUnbegun {T : Type 0} (s : Setting T) (scope : Scope) (before after : List T)
     (old new : ShownStore) : Type 0 where
   pub found : List RowFacts
   pub held : StoreHoldsRows s.tells_tables old found
   pub walk : Walk
   pub hands :
-      HandsGo (λ hand later. WalksTree s.tells_files (s.sees hand) (s.sees later) roots (Ok walk))
+      HandsGo (λ hand later. WalksTree s.tells_files (s.sees hand) (s.sees later) scope (Ok walk))
       (HelpsWith s walk.listing (current found)) before after
   pub has : HasRows s.tells_tables new (current found)
   pub made : new.made ≡ made_swept found old.made
 
 -- the other hands helped with a pass, and the first one heard a whole walk and no more. The rows that are left are true,
 -- and no row of a listed name went
-pub record EndsScanHelped {T : Type 0} (s : Setting T) (roots : List (List ℕ)) (before after : List T)
+pub record EndsScanHelped {T : Type 0} (s : Setting T) (scope : Scope) (before after : List T)
     (old new : ShownStore) (Ends : List RowFacts → Type 0) : Type 0 where
   pub found : List RowFacts
   pub held : StoreHoldsRows s.tells_tables old found
@@ -99,7 +100,7 @@ pub record EndsScanHelped {T : Type 0} (s : Setting T) (roots : List (List ℕ))
   pub made : MakesChanges s.world.true_row found old.made new.made
   pub walk : Walk
   pub hands :
-      HandsGo (λ hand later. WalksTree s.tells_files (s.sees hand) (s.sees later) roots (Ok walk))
+      HandsGo (λ hand later. WalksTree s.tells_files (s.sees hand) (s.sees later) scope (Ok walk))
       (HelpsWith s walk.listing (current found)) before after
   pub stays : KeepsListed walk.listing (current found) left
   pub ends : Ends left
@@ -107,10 +108,10 @@ pub record EndsScanHelped {T : Type 0} (s : Setting T) (roots : List (List ℕ))
 -- the pass was made: the store held the rows that were found, and those that are left are true. The other hands helped:
 -- each heard nothing but openings and reads of parts, or looks, and none of a path of a listed name that had a row; the rows
 -- that were met stood then, and no row of a listed name had gone. The first hand heard a whole walk, and then nothing but
--- openings and reads of listed files whose names had no row by then and looks under the folders; from then on the rows went
+-- openings and reads of listed files whose names had no row by then and looks at paths of the scope; from then on the rows went
 -- and came as in a pass, by what it heard. With one hand the rows that were met are those of the edition that were found. How
 -- it ended may speak of the changes that the store made, too
-pub record MakesPass {T : Type 0} (s : Setting T) (roots : List (List ℕ)) (before after : List T)
+pub record MakesPass {T : Type 0} (s : Setting T) (scope : Scope) (before after : List T)
     (old new : ShownStore)
     (Ends : List NameFacts → List Heard → List Change → List RowFacts → List RowFacts → List RowFacts → Type 0)
     : Type 0 where
@@ -126,11 +127,11 @@ pub record MakesPass {T : Type 0} (s : Setting T) (roots : List (List ℕ)) (bef
   pub more : List Heard
   pub hands :
       HandsGo
-      (λ hand later. HearsPass s.tells_files s.world.version roots (row_names met) walk
+      (λ hand later. HearsPass s.tells_files s.world.version scope (row_names met) walk
       walked more (s.sees hand) (s.sees later))
       (HelpsWith s walk.listing (current found)) before after
   pub kept : KeepsListed walk.listing (current found) met
-  pub moves : MovesRows walk.listing roots more met left
+  pub moves : MovesRows walk.listing (is_in_scope scope) more met left
   pub ends : Ends walk.listing more made.changes (current found) met left
 
 -- the scan is whole: the rows have the listed names, in a told world they are one scan of the listing, the store has
@@ -164,37 +165,37 @@ pub record IsOutOfChanges (told : Bool) (new : ShownStore) (listing : List NameF
   pub has : HasRows told new left
 
 -- how the pass of a scan ended, and what it left
-abbrev pub EndsPassed : {T : Type 0} → Setting T → List (List ℕ) → List T → List T → ShownStore
+abbrev pub EndsPassed : {T : Type 0} → Setting T → Scope → List T → List T → ShownStore
     → ShownStore → PassEnd → Type 0
-EndsPassed s roots before after old new (pass.Whole summary) =
-    MakesPass s roots before after old new
+EndsPassed s scope before after old new (pass.Whole summary) =
+    MakesPass s scope before after old new
     (λ listing more changes found met left.
     IsWholeScan s.world s.tells_tables new summary listing found left)
-EndsPassed s roots before after old new (pass.Missed miss) =
-    MakesPass s roots before after old new
+EndsPassed s scope before after old new (pass.Missed miss) =
+    MakesPass s scope before after old new
     (λ listing more changes found met left. ScanMissesName s.tells_tables new (FirstRose s before after) miss
     listing more met left)
-EndsPassed s roots before after old new (pass.Walk fault) =
-    EndsInWalk s before after old new (WalksInto s.tells_files roots fault)
-EndsPassed s roots before after old new pass.Broken = ⊥
-EndsPassed s roots before after old new pass.KeeperFault =
-    MakesPass s roots before after old new
+EndsPassed s scope before after old new (pass.Walk fault) =
+    EndsInWalk s before after old new (WalksInto s.tells_files scope fault)
+EndsPassed s scope before after old new pass.Broken = ⊥
+EndsPassed s scope before after old new pass.KeeperFault =
+    MakesPass s scope before after old new
     (λ listing more changes found met left. MayHaveRows s.world.true_row s.tells_tables new left)
-    ⊎ EndsScanHelped s roots before after old new (MayHaveRows s.world.true_row s.tells_tables new)
-EndsPassed s roots before after old new pass.LogFull =
-    MakesPass s roots before after old new
+    ⊎ EndsScanHelped s scope before after old new (MayHaveRows s.world.true_row s.tells_tables new)
+EndsPassed s scope before after old new pass.LogFull =
+    MakesPass s scope before after old new
     (λ listing more changes found met left. IsOutOfChanges s.tells_tables new listing changes found left)
-EndsPassed s roots before after old new pass.OutOfMemory =
-    EndsUnbegun s roots before after old new
-    ⊎ (MakesPass s roots before after old new
+EndsPassed s scope before after old new pass.OutOfMemory =
+    EndsUnbegun s scope before after old new
+    ⊎ (MakesPass s scope before after old new
     (λ listing more changes found met left. HasRows s.tells_tables new left)
-    ⊎ EndsScanHelped s roots before after old new (HasRows s.tells_tables new))
+    ⊎ EndsScanHelped s scope before after old new (HasRows s.tells_tables new))
 
 -- how the scan came to its end, and what it left
-abbrev pub EndsScan : {T : Type 0} → Setting T → List (List ℕ) → List T → List T → ShownStore
+abbrev pub EndsScan : {T : Type 0} → Setting T → Scope → List T → List T → ShownStore
     → ShownStore → ScanEnd → Type 0
-EndsScan s roots before after old new (Refused fault) = EndsScanEarly s before after old new fault
-EndsScan s roots before after old new (Passed end) = EndsPassed s roots before after old new end
+EndsScan s scope before after old new (Refused fault) = EndsScanEarly s before after old new fault
+EndsScan s scope before after old new (Passed end) = EndsPassed s scope before after old new end
 
 -- the store was opened once, by this path; where memory was refused, once or not at all
 abbrev pub OpensBy : List ℕ → ShownStore → ShownStore → ScanEnd → Type 0
@@ -208,9 +209,9 @@ LoadsBy sees before after (Refused fault) = Unit {0}
 LoadsBy sees before after (Passed end) = LoadsBeside sees before after end
 
 -- the scan came to this end, by then the store was opened, and a call failed only where a count rose
-pub record Scans {T : Type 0} (s : Setting T) (path : List ℕ) (roots : List (List ℕ))
+pub record Scans {T : Type 0} (s : Setting T) (path : List ℕ) (scope : Scope)
     (before after : List T) (old new : ShownStore) (end : ScanEnd) : Type 0 where
-  pub ends : EndsScan s roots before after old new end
+  pub ends : EndsScan s scope before after old new end
   pub loads : LoadsBy s.sees before after end
   pub hands :
       HandsGo
@@ -225,9 +226,9 @@ pub record Scans {T : Type 0} (s : Setting T) (path : List ℕ) (roots : List (L
 
 -- the scan came to an end, and it was said. The hands behind those that it is made with, two and one for each worker, are
 -- as they were
-pub record RunsScan {T : Type 0} (s : Setting T) (path : List ℕ) (workers : ℕ) (roots : List (List ℕ))
+pub record RunsScan {T : Type 0} (s : Setting T) (path : List ℕ) (workers : ℕ) (scope : Scope)
     (before after : CommandStage T) (status : Status) : Type 0 where
   pub end : ScanEnd
-  pub scans : Scans s path roots before.hands after.hands before.store after.store end
+  pub scans : Scans s path scope before.hands after.hands before.store after.store end
   pub others : drop (workers + 2) after.hands ≡ drop (workers + 2) before.hands
   pub said : SaysEnd end before.streams after.streams status

@@ -1,9 +1,10 @@
 -- The command `trial` (this project's rule): generated files are scanned into a new index in memory, and one line tells
 -- what it has then: its numbers, and the sum of its rows.
-use Rattle.std.specs.Prelude.{◌≡◌, ◌⊎◌, ℕ, List, [], ◌∷◌, ◌++◌, codes, decimal, length, count_by, sum_by}
+use Rattle.std.specs.Prelude.{◌≡◌, ◌⊎◌, ℕ, true, List, [], ◌∷◌, ◌++◌, codes, decimal, length, count_by, sum_by}
 use Rattle.std.specs.List.{flat_map}
 use Rattle.hex.specs.Hex.{encode_lower}
 use Rattle.sha2.specs.Sha256.{sha256}
+use Rattle.path_scope.specs.Scope.{Scope, scope_of}
 use Rattle.row_types.specs.Row.{RowFacts}
 use Rattle.row_types.specs.declared.identity.Kind.TheVariants.{Executable, Debuginfo}
 use Rattle.row_types.specs.declared.limits.TheConstants.{EDITION}
@@ -26,6 +27,10 @@ use Rattle.dbgd_commands.specs.declared.trial_sum.Totals.{Totals}
 -- the folder of the generated files
 abbrev pub forged_root : List ℕ
 forged_root = codes "/t"
+
+-- a scan of that folder, with each path selected
+abbrev pub forged_scope : Scope
+forged_scope = scope_of (forged_root ∷ []) (λ _. true)
 
 -- how many sources a row lists
 abbrev pub sources_of : Reading → ℕ
@@ -63,7 +68,7 @@ trial_end_line files rows =
 
 -- the rows are those of one scan of the generated files: one for each file, by path, of the edition
 pub record AreForgedRows (seed files : ℕ) (rows : List RowFacts) : Type 0 where
-  pub names : AreFilesUnder (forged_names seed files) (forged_root ∷ []) (row_names rows)
+  pub names : AreFilesUnder (forged_names seed files) forged_scope (row_names rows)
   pub sound : AreTrueRows (λ row. row.edition ≡ EDITION) rows
 
 -- a whole pass left these rows, and these are its numbers of them

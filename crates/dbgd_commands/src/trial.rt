@@ -22,6 +22,7 @@ use elf_forge::ForgeTree;
 use elf_reading::ElfReader;
 use index_state::{OpenFault, State, open_state, show_index};
 use pass_runner::{PassEnd, Summary, scan_state};
+use path_scope::AllPaths;
 use row_types::{CanonPath, OpenWorld};
 use std::alloc::{AllocError, Global};
 use std::sync::Wait;
@@ -102,7 +103,16 @@ fn scanned<G: Gate, Rt: Threads + Wait + Sync>(
     let root = root(alloc)?;
     let hands = hands_of(alloc, seed, files, workers + 2)?;
     let state = new_index(alloc)?;
-    let (state, _, end) = scan_state(rt, alloc, state, hands, &[root], &ElfReader, gate);
+    let (state, _, end) = scan_state(
+        rt,
+        alloc,
+        state,
+        hands,
+        &[root],
+        &mut AllPaths,
+        &ElfReader,
+        gate,
+    );
     // For their clauses: the index invariant, and the path of a name that was missed is one that is
     // kept.
     show_index(&state);

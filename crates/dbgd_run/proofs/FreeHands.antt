@@ -1,5 +1,6 @@
 -- The first hand over several passes: its count never falls, and what stands still stays so.
 use Rattle.std.proofs.Common.{ℕ, zero, suc, ◌<◌, ◌≤◌, Bool, List, [], ◌∷◌, take, refl, sym, ◌∙◌, subst, arith}
+use Rattle.path_scope.specs.Scope.{Scope}
 use Rattle.row_types.specs.Name.{NameFacts}
 use Rattle.tree_trait.specs.Shown.{ShownTree, StaysStill}
 use Rattle.tree_walk.specs.Files.{HasManyEntries, HasManyFiles}
@@ -20,9 +21,9 @@ later_both a b c one two = record {
 }
 
 -- nothing stands against a part of what nothing stands against
-free_both : (told : Bool) (roots : List (List ℕ)) (a b c : ShownTree) → HandLater a b → HandLater b c → IsFreeHand told roots a c
-    → IsFreeHand told roots a b × IsFreeHand told roots b c
-free_both told roots a b c one two free =
+free_both : (told : Bool) (scope : Scope) (a b c : ShownTree) → HandLater a b → HandLater b c → IsFreeHand told scope a c
+    → IsFreeHand told scope a b × IsFreeHand told scope b c
+free_both told scope a b c one two free =
     let low = one.later in
     let high = two.later in
     let stays = one.still free.still.1 in (
@@ -35,9 +36,9 @@ free_both told roots a b c one two free =
       },
       record {
         still = (free.still.0, stays.still);
-        there = subst (λ (present : List NameFacts). ¬ HasRootGone present roots) (sym stays.same) free.there;
-        files = subst (λ (present : List NameFacts). ¬ HasManyFiles present roots) (sym stays.same) free.files;
-        entries = subst (λ (present : List NameFacts). ¬ HasManyEntries present roots) (sym stays.same) free.entries;
+        there = subst (λ (present : List NameFacts). ¬ HasRootGone present scope) (sym stays.same) free.there;
+        files = subst (λ (present : List NameFacts). ¬ HasManyFiles present scope) (sym stays.same) free.files;
+        entries = subst (λ (present : List NameFacts). ¬ HasManyEntries present scope) (sym stays.same) free.entries;
         faultless = λ rose. free.faultless (omega (arith, rose, low));
       },
     )
@@ -54,14 +55,14 @@ module _ {T : Type 0} (s : Setting T) where
   hands_both (x ∷ xs) (y ∷ ys) [] one two = absurd two
   hands_both (x ∷ xs) (y ∷ ys) (z ∷ zs) one two = later_both (s.sees x) (s.sees y) (s.sees z) one two
 
-  pub free_split : (roots : List (List ℕ)) (a b c : List T) → OfFirst s HandLater a b → OfFirst s HandLater b c
-      → OfFirst s (IsFreeHand s.tells_files roots) a c
-      → OfFirst s (IsFreeHand s.tells_files roots) a b × OfFirst s (IsFreeHand s.tells_files roots) b c
-  free_split roots [] b c one two free = absurd one
-  free_split roots (x ∷ xs) [] c one two free = absurd one
-  free_split roots (x ∷ xs) (y ∷ ys) [] one two free = absurd two
-  free_split roots (x ∷ xs) (y ∷ ys) (z ∷ zs) one two free =
-      free_both s.tells_files roots (s.sees x) (s.sees y) (s.sees z) one two free
+  pub free_split : (scope : Scope) (a b c : List T) → OfFirst s HandLater a b → OfFirst s HandLater b c
+      → OfFirst s (IsFreeHand s.tells_files scope) a c
+      → OfFirst s (IsFreeHand s.tells_files scope) a b × OfFirst s (IsFreeHand s.tells_files scope) b c
+  free_split scope [] b c one two free = absurd one
+  free_split scope (x ∷ xs) [] c one two free = absurd one
+  free_split scope (x ∷ xs) (y ∷ ys) [] one two free = absurd two
+  free_split scope (x ∷ xs) (y ∷ ys) (z ∷ zs) one two free =
+      free_both s.tells_files scope (s.sees x) (s.sees y) (s.sees z) one two free
 
   -- of the first of so many hands
   pub front_first : (Holds : ShownTree → ShownTree → Type 0) (n : ℕ) → 0 < n → (hands left : List T) → OfFirst s Holds hands left

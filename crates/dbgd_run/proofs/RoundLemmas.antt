@@ -4,6 +4,7 @@ use Rattle.std.specs.List.{list_any}
 use Rattle.std.proofs.lemmas.Bool.{false≢true}
 use Rattle.std.proofs.lemmas.List.Folds.{list_any-append}
 use Rattle.std.proofs.lemmas.List.Sums.{sum_by-cons}
+use Rattle.path_scope.specs.Scope.{Scope}
 use Rattle.row_types.specs.Faults.{Rose}
 use Rattle.tree_trait.specs.Clock.{waited}
 use Rattle.tree_trait.specs.declared.clock.Wake.TheVariants.{Again, Stop}
@@ -73,10 +74,10 @@ lines_both first rest old mid new one two =
     joined (inr rose) more = let late = two.later in inr (omega (arith, rose, late))
 
 -- the rounds so far: each line was made, and whether one was refused
-pub record KeepsOn {T : Type 0} (s : Setting T) (roots : List (List ℕ)) (secs : ℕ) (before : PassStage T) (failed : Bool)
+pub record KeepsOn {T : Type 0} (s : Setting T) (scope : Scope) (secs : ℕ) (before : PassStage T) (failed : Bool)
     (now : PassStage T) : Type 0 where
   pub rounds : List (Round T)
-  pub go : RoundsGo s roots secs before rounds now
+  pub go : RoundsGo s scope secs before rounds now
   pub cut : is_any_cut rounds ≡ failed
   pub made : is_any_unmade rounds ≡ false
 
@@ -94,14 +95,14 @@ memory_stop e = cc
 memory_fail : OutOfMemory ≡ OutFailed → ⊥
 memory_fail e = cc
 
-module _ {T : Type 0} (s : Setting T) (roots : List (List ℕ)) (secs : ℕ) where
-  go_on : (before now : PassStage T) (rounds : List (Round T)) (round : Round T) → RoundsGo s roots secs before rounds now
-      → IsRound s roots secs now round → RoundsGo s roots secs before (rounds ++ round ∷ []) round.after
-  go_on before now [] round same is = (subst (λ (at : PassStage T). IsRound s roots secs at round) same is, refl)
+module _ {T : Type 0} (s : Setting T) (scope : Scope) (secs : ℕ) where
+  go_on : (before now : PassStage T) (rounds : List (Round T)) (round : Round T) → RoundsGo s scope secs before rounds now
+      → IsRound s scope secs now round → RoundsGo s scope secs before (rounds ++ round ∷ []) round.after
+  go_on before now [] round same is = (subst (λ (at : PassStage T). IsRound s scope secs at round) same is, refl)
   go_on before now (first ∷ rounds) round go is = (go.0, go_on first.after now rounds round go.1 is)
 
   -- one wait a round
-  all_waits : (before after : PassStage T) (rounds : List (Round T)) → RoundsGo s roots secs before rounds after
+  all_waits : (before after : PassStage T) (rounds : List (Round T)) → RoundsGo s scope secs before rounds after
       → Gains before.woke (map (λ _. waited secs Again) rounds) after.woke
   all_waits before after [] same =
       subst (λ (at : PassStage T). Gains before.woke [] at.woke) (sym same) (gains_none before.woke)
@@ -110,7 +111,7 @@ module _ {T : Type 0} (s : Setting T) (roots : List (List ℕ)) (secs : ℕ) whe
       (all_waits first.after after rounds go.1)
 
   -- each line on the standard output, where none was refused or left out
-  all_out : (before after : PassStage T) (rounds : List (Round T)) → RoundsGo s roots secs before rounds after
+  all_out : (before after : PassStage T) (rounds : List (Round T)) → RoundsGo s scope secs before rounds after
       → is_any_cut rounds ≡ false → is_any_unmade rounds ≡ false
       → GetsAll (out_lines rounds) before.streams.out after.streams.out
   all_out before after [] same cut unmade =
@@ -123,7 +124,7 @@ module _ {T : Type 0} (s : Setting T) (roots : List (List ℕ)) (secs : ℕ) whe
       (all_out first.after after rounds go.1 whole.1 made.1)
 
   -- the count of the standard output never falls
-  pub later_out : (before after : PassStage T) (rounds : List (Round T)) → RoundsGo s roots secs before rounds after
+  pub later_out : (before after : PassStage T) (rounds : List (Round T)) → RoundsGo s scope secs before rounds after
       → before.streams.out.write_faults ≤ after.streams.out.write_faults
   later_out before after [] same =
       let count : after.streams.out.write_faults ≡ before.streams.out.write_faults
@@ -135,7 +136,7 @@ module _ {T : Type 0} (s : Setting T) (roots : List (List ℕ)) (secs : ℕ) whe
       omega (arith, one, rest)
 
   -- it rose where a line was refused
-  rose_out : (before after : PassStage T) (rounds : List (Round T)) → RoundsGo s roots secs before rounds after
+  rose_out : (before after : PassStage T) (rounds : List (Round T)) → RoundsGo s scope secs before rounds after
       → is_any_cut rounds ≡ true → Rose before.streams.out.write_faults after.streams.out.write_faults
   rose_out before after [] same cut = absurd (false≢true cut)
   rose_out before after (first ∷ rounds) go cut =
@@ -154,7 +155,7 @@ module _ {T : Type 0} (s : Setting T) (roots : List (List ℕ)) (secs : ℕ) whe
           omega (arith, one, rose)
 
   -- what the standard error got
-  all_err : (before after : PassStage T) (rounds : List (Round T)) → RoundsGo s roots secs before rounds after
+  all_err : (before after : PassStage T) (rounds : List (Round T)) → RoundsGo s scope secs before rounds after
       → GetsLines (err_lines rounds) before.streams.err after.streams.err
   all_err before after [] same =
       subst (λ (at : PassStage T). GetsLines [] before.streams.err at.streams.err) (sym same)
@@ -166,7 +167,7 @@ module _ {T : Type 0} (s : Setting T) (roots : List (List ℕ)) (secs : ℕ) whe
       (all_err first.after after rounds go.1)
 
   -- what the share counted
-  all_counts : (before after : PassStage T) (rounds : List (Round T)) → RoundsGo s roots secs before rounds after
+  all_counts : (before after : PassStage T) (rounds : List (Round T)) → RoundsGo s scope secs before rounds after
       → GrowsShare (λ number. sum_by (λ (round : Round T). added_by round.end number) rounds) before.share after.share
   all_counts before after [] same =
       subst (λ (at : PassStage T). GrowsShare (λ _. 0) before.share at.share) (sym same) (grows_none before.share)
@@ -181,12 +182,12 @@ module _ {T : Type 0} (s : Setting T) (roots : List (List ℕ)) (secs : ℕ) whe
       (all_counts first.after after rounds go.1))
 
   -- no round yet
-  pub keeps_none : (before : PassStage T) → KeepsOn s roots secs before false before
+  pub keeps_none : (before : PassStage T) → KeepsOn s scope secs before false before
   keeps_none before = record { rounds = []; go = refl; cut = refl; made = refl }
 
   -- a round whose line was said
-  pub keeps_written : (before now : PassStage T) (failed : Bool) (round : Round T) → KeepsOn s roots secs before failed now
-      → IsRound s roots secs now round → round.fate ≡ Written → KeepsOn s roots secs before failed round.after
+  pub keeps_written : (before now : PassStage T) (failed : Bool) (round : Round T) → KeepsOn s scope secs before failed now
+      → IsRound s scope secs now round → round.fate ≡ Written → KeepsOn s scope secs before failed round.after
   keeps_written before now failed round keeps is written = record {
     rounds = keeps.rounds ++ round ∷ [];
     go = go_on before now keeps.rounds round keeps.go is;
@@ -198,8 +199,8 @@ module _ {T : Type 0} (s : Setting T) (roots : List (List ℕ)) (secs : ℕ) whe
   }
 
   -- a round whose line was refused
-  pub keeps_cut : (before now : PassStage T) (failed : Bool) (round : Round T) → KeepsOn s roots secs before failed now
-      → IsRound s roots secs now round → round.fate ≡ Cut → KeepsOn s roots secs before true round.after
+  pub keeps_cut : (before now : PassStage T) (failed : Bool) (round : Round T) → KeepsOn s scope secs before failed now
+      → IsRound s scope secs now round → round.fate ≡ Cut → KeepsOn s scope secs before true round.after
   keeps_cut before now failed round keeps is cut = record {
     rounds = keeps.rounds ++ round ∷ [];
     go = go_on before now keeps.rounds round keeps.go is;
@@ -210,8 +211,8 @@ module _ {T : Type 0} (s : Setting T) (roots : List (List ℕ)) (secs : ℕ) whe
   }
 
   -- the clock said Stop
-  pub keeps_stopped : (before now after : PassStage T) (failed : Bool) → KeepsOn s roots secs before failed now
-      → StopsPassing secs now after → KeepsPassing s roots secs before (stopped_by failed) after
+  pub keeps_stopped : (before now after : PassStage T) (failed : Bool) → KeepsOn s scope secs before failed now
+      → StopsPassing secs now after → KeepsPassing s scope secs before (stopped_by failed) after
   keeps_stopped before now after false keeps stops =
       let streams : after.streams ≡ now.streams = ap (λ (at : PassStage T). at.streams) stops.rest in
       let share : after.share ≡ now.share = ap (λ (at : PassStage T). at.share) stops.rest in
@@ -260,8 +261,8 @@ module _ {T : Type 0} (s : Setting T) (roots : List (List ℕ)) (secs : ℕ) whe
       }
 
   -- a line could not be made
-  pub keeps_unmade : (before now : PassStage T) (failed : Bool) (round : Round T) → KeepsOn s roots secs before failed now
-      → IsRound s roots secs now round → round.fate ≡ Unmade → KeepsPassing s roots secs before OutOfMemory round.after
+  pub keeps_unmade : (before now : PassStage T) (failed : Bool) (round : Round T) → KeepsOn s scope secs before failed now
+      → IsRound s scope secs now round → round.fate ≡ Unmade → KeepsPassing s scope secs before OutOfMemory round.after
   keeps_unmade before now failed round keeps is unmade =
       let go = go_on before now keeps.rounds round keeps.go is in
       record {

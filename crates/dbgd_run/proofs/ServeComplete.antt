@@ -3,6 +3,7 @@ use Rattle.std.proofs.Common.{◌≡◌, inl, inr, ℕ, ◌+◌, ◌<◌, Bool, 
 use Rattle.std.proofs.lemmas.Bool.{false≢true}
 use Rattle.std.proofs.lemmas.List.Elements.{All-nil, All-cons}
 use mathlib.Core.List.{IsPrefix}
+use Rattle.path_scope.specs.Scope.{Scope}
 use Rattle.row_types.specs.Faults.{Rose}
 use Rattle.row_types.specs.Name.{NameFacts}
 use Rattle.tree_trait.specs.Shown.{HandsOn}
@@ -31,7 +32,7 @@ use Rattle.dbgd_commands.proofs.HandLemmas.{by_first, of_first}
 use Rattle.dbgd_commands.proofs.RowLemmas.{first_held, none_bad, none_overfull}
 use Rattle.dbgd_run.specs.RoundSaid.{TellsPass, is_cut}
 use Rattle.dbgd_run.specs.Rounds.{EndsPassing, PassesShared, PassStage, Round, RoundsGo}
-use Rattle.dbgd_run.specs.Serve.{HasServed, IsUnopened, PassesOn, RunsServe, SaysUnserved, ServeWords, served, unopened, unserved}
+use Rattle.dbgd_run.specs.Serve.{HasServed, IsUnopened, PassesOn, RunsServe, SaysUnserved, ServeWords, scope_in, served, unopened, unserved}
 use Rattle.dbgd_run.specs.ServeCauses.{rounds_behind}
 use Rattle.dbgd_run.specs.ServeComplete.{CompletesServe, IsFreeServe, WritesPassLine}
 use Rattle.dbgd_run.specs.declared.line_fate.LineFate.{LineFate}
@@ -85,25 +86,25 @@ line_done log pass.Broken fate old new done sound told never = absurd (sound don
 line_done log pass.KeeperFault fate old new done sound told never = absurd (sound done)
 line_done log pass.LogFull fate old new done sound told never = absurd (sound done)
 
-module _ {T : Type 0} (s : Setting T) (roots : List (List ℕ)) where
-  round_later : (before after : PassStage T) (end : PassEnd) → PassesShared s roots end before after
+module _ {T : Type 0} (s : Setting T) (scope : Scope) where
+  round_later : (before after : PassStage T) (end : PassEnd) → PassesShared s scope end before after
       → OfFirst s HandLater before.hands after.hands
   round_later before after end passes =
       of_first s
-      (λ hand left. HandsOn s.tells_files s.world.version (s.sees hand) (s.sees left) (0 < length roots) (IsTrue (is_hand_fault end)))
+      (λ hand left. HandsOn s.tells_files s.world.version (s.sees hand) (s.sees left) (0 < length scope.roots) (IsTrue (is_hand_fault end)))
       (λ hand left. HandsOn s.tells_files s.world.version (s.sees hand) (s.sees left) ⊥ ⊥)
       HandLater before.hands after.hands (λ hand left on. record { later = on.cause.later; still = on.still }) passes.goes
 
   pass_done : (log : List Change) (before after : PassStage T) (end : PassEnd) (fate : LineFate)
-      → PassesShared s roots end before after → TellsPass end before.streams after.streams fate
-      → OfFirst s (IsFreeHand s.tells_files roots) before.hands after.hands → IsPrefix after.log log → length log < LOG_LIMIT
+      → PassesShared s scope end before after → TellsPass end before.streams after.streams fate
+      → OfFirst s (IsFreeHand s.tells_files scope) before.hands after.hands → IsPrefix after.log log → length log < LOG_LIMIT
       → EachChanges [] log → (Rose before.streams.out.write_faults after.streams.out.write_faults → ⊥) → WritesPassLine end fate
   pass_done log before after end fate passes told free into room each out =
       line_done after.log end fate before.streams after.streams
       (by_first s
-      (λ hand left. IsUnhinderedPass s.tells_files roots after.log (s.sees hand) (s.sees left) → IsDoneShared after.log end)
+      (λ hand left. IsUnhinderedPass s.tells_files scope after.log (s.sees hand) (s.sees left) → IsDoneShared after.log end)
       (λ hand left. HandsOn s.tells_files s.world.version (s.sees hand) (s.sees left) ⊥ ⊥)
-      (IsFreeHand s.tells_files roots) before.hands after.hands passes.complete free
+      (IsFreeHand s.tells_files scope) before.hands after.hands passes.complete free
       (λ hand left goes is.
       goes (record {
         still = is.still;
@@ -119,30 +120,30 @@ module _ {T : Type 0} (s : Setting T) (roots : List (List ℕ)) where
 
   module _ (secs : ℕ) where
     rounds_later : (start : List T) (before last : PassStage T) (rounds : List (Round T)) → OfFirst s HandLater start before.hands
-        → RoundsGo s roots secs before rounds last → OfFirst s HandLater before.hands last.hands
+        → RoundsGo s scope secs before rounds last → OfFirst s HandLater before.hands last.hands
     rounds_later start before last [] there same =
         subst (λ (at : PassStage T). OfFirst s HandLater before.hands at.hands) (sym same) (same_later s start before.hands there)
     rounds_later start before last (round ∷ rounds) there go =
         let one = round_later before round.after round.end go.0.passes in
         hands_both s before.hands round.after.hands last.hands one (rounds_later before.hands round.after last rounds one go.1)
 
-    rounds_log : (before last : PassStage T) (rounds : List (Round T)) → RoundsGo s roots secs before rounds last
+    rounds_log : (before last : PassStage T) (rounds : List (Round T)) → RoundsGo s scope secs before rounds last
         → IsPrefix before.log last.log
     rounds_log before last [] same = prefix_of_same before.log last.log (sym (ap (λ (at : PassStage T). at.log) same))
     rounds_log before last (round ∷ rounds) go =
         prefix_trans before.log round.after.log last.log go.0.passes.later (rounds_log round.after last rounds go.1)
 
-    rounds_done : (log : List Change) (before last : PassStage T) (rounds : List (Round T)) → RoundsGo s roots secs before rounds last
-        → OfFirst s (IsFreeHand s.tells_files roots) before.hands last.hands → IsPrefix last.log log → length log < LOG_LIMIT
+    rounds_done : (log : List Change) (before last : PassStage T) (rounds : List (Round T)) → RoundsGo s scope secs before rounds last
+        → OfFirst s (IsFreeHand s.tells_files scope) before.hands last.hands → IsPrefix last.log log → length log < LOG_LIMIT
         → EachChanges [] log → (Rose before.streams.out.write_faults last.streams.out.write_faults → ⊥)
         → All (λ (round : Round T). WritesPassLine round.end round.fate) rounds
     rounds_done log before last [] same free into room each out = All-nil (λ (round : Round T). WritesPassLine round.end round.fate)
     rounds_done log before last (round ∷ rounds) go free into room each out =
         let one = round_later before round.after round.end go.0.passes in
         let rest = rounds_later before.hands round.after last rounds one go.1 in
-        let parts = free_split s roots before.hands round.after.hands last.hands one rest free in
+        let parts = free_split s scope before.hands round.after.hands last.hands one rest free in
         let low = out_later round.end before.streams round.after.streams round.fate go.0.tells in
-        let high = later_out s roots secs round.after last rounds go.1 in
+        let high = later_out s scope secs round.after last rounds go.1 in
         All-cons (λ (round : Round T). WritesPassLine round.end round.fate) round rounds
         (pass_done log before round.after round.end round.fate go.0.passes go.0.tells parts.0
         (prefix_trans round.after.log last.log log (rounds_log round.after last rounds go.1) into) room each
@@ -176,11 +177,11 @@ module _ {T : Type 0} (s : Setting T) (roots : List (List ℕ)) where
     -- the passes behind the first one, up to the last stage
     record Behind (first : Round T) (rounds : List (Round T)) (last : PassStage T) : Type 0 where
       pub mid : PassStage T
-      pub go : RoundsGo s roots secs first.after rounds mid
+      pub go : RoundsGo s scope secs first.after rounds mid
       pub ends : EndsAt mid last
 
-    behind : (first : Round T) (how : Option PassesEnd) (last : PassStage T) (passes : PassesOn s roots secs first how last)
-        → Behind first (rounds_behind s roots secs first how last passes) last
+    behind : (first : Round T) (how : Option PassesEnd) (last : PassStage T) (passes : PassesOn s scope secs first how last)
+        → Behind first (rounds_behind s scope secs first how last passes) last
     behind first None last none = record {
       mid = first.after;
       go = refl;
@@ -197,34 +198,34 @@ module _ {T : Type 0} (s : Setting T) (roots : List (List ℕ)) where
     }
 
 module _ {T : Type 0} (s : Setting T) (words : ServeWords) (before after : ProgramStage T) where
-  served_done : (code : Status) (run : HasServed s words before after code) → IsFreeServe s words.roots before after
+  served_done : (code : Status) (run : HasServed s words before after code) → IsFreeServe s (scope_in words) before after
       → length run.log < LOG_LIMIT
       → All (λ (round : Round T). WritesPassLine round.end round.fate)
-      (run.first ∷ rounds_behind s words.roots words.secs run.first run.how run.last run.passes)
+      (run.first ∷ rounds_behind s (scope_in words) words.secs run.first run.how run.last run.passes)
   served_done code run free room =
-      let on = behind s words.roots words.secs run.first run.how run.last run.passes in
-      let rounds = rounds_behind s words.roots words.secs run.first run.how run.last run.passes in
+      let on = behind s (scope_in words) words.secs run.first run.how run.last run.passes in
+      let rounds = rounds_behind s (scope_in words) words.secs run.first run.how run.last run.passes in
       let each = sound_log run.broken run.log run.logs.void (λ is. free.store (run.store.cause.rose is)) in
       let start = take (words.workers + 2) before.command.hands in
-      let one = round_later s words.roots _ run.first.after run.first.end run.made.passes in
-      let rest = rounds_later s words.roots words.secs start run.first.after on.mid rounds one on.go in
-      let most : OfFirst s (IsFreeHand s.tells_files words.roots) start on.mid.hands
-      = subst (λ (left : List T). OfFirst s (IsFreeHand s.tells_files words.roots) start left) (run.hands ∙ on.ends.hands)
-      (front_first s (IsFreeHand s.tells_files words.roots) (words.workers + 2) (omega arith) before.command.hands after.command.hands free.hand) in
-      let parts = free_split s words.roots start run.first.after.hands on.mid.hands one rest most in
+      let one = round_later s (scope_in words) _ run.first.after run.first.end run.made.passes in
+      let rest = rounds_later s (scope_in words) words.secs start run.first.after on.mid rounds one on.go in
+      let most : OfFirst s (IsFreeHand s.tells_files (scope_in words)) start on.mid.hands
+      = subst (λ (left : List T). OfFirst s (IsFreeHand s.tells_files (scope_in words)) start left) (run.hands ∙ on.ends.hands)
+      (front_first s (IsFreeHand s.tells_files (scope_in words)) (words.workers + 2) (omega arith) before.command.hands after.command.hands free.hand) in
+      let parts = free_split s (scope_in words) start run.first.after.hands on.mid.hands one rest most in
       let into = subst (λ (log : List Change). IsPrefix log run.log) on.ends.log run.within in
       let line = run.line.out.later in
       let one_line = out_later run.first.end run.told run.first.after.streams run.first.fate run.made.tells in
-      let more = later_out s words.roots words.secs run.first.after on.mid rounds on.go in
+      let more = later_out s (scope_in words) words.secs run.first.after on.mid rounds on.go in
       let last : after.command.streams.out.write_faults ≡ on.mid.streams.out.write_faults
       = ap (λ (shown : ShownStream). shown.write_faults) run.out ∙ ap (λ (x : Streams). x.out.write_faults) on.ends.streams in
       All-cons (λ (round : Round T). WritesPassLine round.end round.fate) run.first rounds
-      (pass_done s words.roots run.log _ run.first.after run.first.end run.first.fate run.made.passes run.made.tells parts.0 run.passed room
+      (pass_done s (scope_in words) run.log _ run.first.after run.first.end run.first.fate run.made.passes run.made.tells parts.0 run.passed room
       each (λ rose. free.out (omega (arith, rose, line, more, last))))
-      (rounds_done s words.roots words.secs run.log run.first.after on.mid rounds on.go parts.1 into room each
+      (rounds_done s (scope_in words) words.secs run.log run.first.after on.mid rounds on.go parts.1 into room each
       (λ rose. free.out (omega (arith, rose, line, one_line, last))))
 
-  refused_wants : (fault : OpenFault) (code : Status) → IsUnopened s words before after fault code → IsFreeServe s words.roots before after
+  refused_wants : (fault : OpenFault) (code : Status) → IsUnopened s words before after fault code → IsFreeServe s (scope_in words) before after
       → fault ≡ refusal.OutOfMemory
   refused_wants refusal.KeeperFault code run free = absurd (free.store (run.scans.store.rose refl))
   refused_wants (refusal.BadRow kept fault) code run free =
@@ -237,7 +238,7 @@ module _ {T : Type 0} (s : Setting T) (words : ServeWords) (before after : Progr
   refused_wants refusal.OutOfMemory code run free = refl
 
   -- what comes of a server that nothing stands against
-  pub serve_complete : (code : Status) (does : RunsServe s words before after code) → IsFreeServe s words.roots before after
+  pub serve_complete : (code : Status) (does : RunsServe s words before after code) → IsFreeServe s (scope_in words) before after
       → CompletesServe s words before after code does
   serve_complete code (unopened fault run) free = refused_wants fault code run free
   serve_complete code (unserved run) free = by_said run.said

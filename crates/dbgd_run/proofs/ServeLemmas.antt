@@ -1,6 +1,7 @@
 -- What the status of a server says, by what it did.
 use Rattle.std.proofs.Common.{◌≡◌, inl, inr, ℕ, ◌<◌, ◌≤◌, Bool, true, false, ◌||◌, List, [], ◌++◌, All, map, Option, Some, None, length, refl, sym, ap, subst, arith, IsTrue}
 use Rattle.std.proofs.lemmas.Bool.{true≢false}
+use Rattle.path_scope.specs.Scope.{Scope}
 use Rattle.row_types.specs.Faults.{Rose}
 use Rattle.row_types.specs.Row.{RowFacts}
 use Rattle.http_wire.specs.Door.{ShownDoor}
@@ -29,7 +30,7 @@ use Rattle.dbgd_commands.proofs.ScanLemmas.{bad_end, full_end}
 use Rattle.dbgd_commands.proofs.StoreLemmas.{scans_wanting}
 use Rattle.dbgd_run.specs.RoundSaid.{is_cut, is_unmade}
 use Rattle.dbgd_run.specs.Rounds.{KeepsPassing, PassStage, Round}
-use Rattle.dbgd_run.specs.Serve.{HasServed, IsUnopened, PassesOn, RunsServe, SaysUnserved, ServeWords, served, served_setting, unopened, unserved}
+use Rattle.dbgd_run.specs.Serve.{HasServed, IsUnopened, PassesOn, RunsServe, SaysUnserved, ServeWords, scope_in, served, served_setting, unopened, unserved}
 use Rattle.dbgd_run.specs.ServeCauses.{IsServedWell, ServeEnds, ServeStatus, SomeDoorRose, lines_behind}
 use Rattle.dbgd_run.specs.ServeSaid.{has_cut, is_any_failed, served_status, serving_line, wants_line}
 use Rattle.dbgd_run.specs.Workers.{WorkerFacts}
@@ -42,27 +43,27 @@ use Rattle.dbgd_run.proofs.TellLemmas.{out_later, out_rose, out_whole}
 
 -- The standard output
 
-module _ {T : Type 0} (s : Setting T) (roots : List (List ℕ)) (secs : ℕ) where
+module _ {T : Type 0} (s : Setting T) (scope : Scope) (secs : ℕ) where
   -- the count of the standard output never falls while passes are made
-  keeps_later : (before after : PassStage T) (how : PassesEnd) → KeepsPassing s roots secs before how after
+  keeps_later : (before after : PassStage T) (how : PassesEnd) → KeepsPassing s scope secs before how after
       → before.streams.out.write_faults ≤ after.streams.out.write_faults
   keeps_later before after Stopped keeps =
-      let at = later_out s roots secs before keeps.last keeps.rounds keeps.go in
+      let at = later_out s scope secs before keeps.last keeps.rounds keeps.go in
       let same : after.streams.out.write_faults ≡ keeps.last.streams.out.write_faults
       = ap (λ (at : PassStage T). at.streams.out.write_faults) keeps.ends.2.rest in
       omega (arith, at, same)
   keeps_later before after OutFailed keeps =
-      let at = later_out s roots secs before keeps.last keeps.rounds keeps.go in
+      let at = later_out s scope secs before keeps.last keeps.rounds keeps.go in
       let same : after.streams.out.write_faults ≡ keeps.last.streams.out.write_faults
       = ap (λ (at : PassStage T). at.streams.out.write_faults) keeps.ends.2.rest in
       omega (arith, at, same)
   keeps_later before after OutOfMemory keeps =
-      let at = later_out s roots secs before keeps.last keeps.rounds keeps.go in
+      let at = later_out s scope secs before keeps.last keeps.rounds keeps.go in
       let same : after.streams.out.write_faults ≡ keeps.last.streams.out.write_faults
       = ap (λ (at : PassStage T). at.streams.out.write_faults) keeps.ends.1 in
       omega (arith, at, same)
 
-  on_later : (first : Round T) (how : Option PassesEnd) (last : PassStage T) → PassesOn s roots secs first how last
+  on_later : (first : Round T) (how : Option PassesEnd) (last : PassStage T) → PassesOn s scope secs first how last
       → first.after.streams.out.write_faults ≤ last.streams.out.write_faults
   on_later first None last none =
       let same : last.streams.out.write_faults ≡ first.after.streams.out.write_faults
@@ -71,9 +72,9 @@ module _ {T : Type 0} (s : Setting T) (roots : List (List ℕ)) (secs : ℕ) whe
   on_later first (Some how) last kept = keeps_later first.after last how kept.1
 
   -- where memory was not refused for a line, and none was refused by the standard output, it got each line
-  on_out : (first : Round T) (how : Option PassesEnd) (last : PassStage T) (passes : PassesOn s roots secs first how last)
+  on_out : (first : Round T) (how : Option PassesEnd) (last : PassStage T) (passes : PassesOn s scope secs first how last)
       → wants_line first.fate how ≡ false → has_cut first.fate how ≡ false
-      → GetsAll (lines_behind s roots secs first how last passes) first.after.streams.out last.streams.out
+      → GetsAll (lines_behind s scope secs first how last passes) first.after.streams.out last.streams.out
   on_out first None last none wants cut =
       subst (λ (at : PassStage T). GetsAll [] first.after.streams.out at.streams.out) (sym none.1)
       (gets_none first.after.streams.out)
@@ -95,7 +96,7 @@ module _ {T : Type 0} (s : Setting T) (roots : List (List ℕ)) (secs : ℕ) whe
   first_whole fate (Some OutOfMemory) cut = cut
 
   -- a line was refused only where the count rose
-  on_rose : (first : Round T) (how : Option PassesEnd) (last : PassStage T) (low : ℕ) → PassesOn s roots secs first how last
+  on_rose : (first : Round T) (how : Option PassesEnd) (last : PassStage T) (low : ℕ) → PassesOn s scope secs first how last
       → low ≤ first.after.streams.out.write_faults
       → (is_cut first.fate ≡ true → Rose low first.after.streams.out.write_faults)
       → has_cut first.fate how ≡ true → Rose low last.streams.out.write_faults
@@ -133,7 +134,7 @@ module _ {T : Type 0} (s : Setting T) (words : ServeWords) (before after : Progr
         → Rose before.command.streams.out.write_faults after.command.streams.out.write_faults
     cut_rose cut =
         let least = first_least in
-        let rose = on_rose s words.roots words.secs run.first run.how run.last before.command.streams.out.write_faults run.passes least
+        let rose = on_rose s (scope_in words) words.secs run.first run.how run.last before.command.streams.out.write_faults run.passes least
         (λ one.
         let line = run.line.out.later in
         let pass = out_rose run.first.end run.told run.first.after.streams run.first.fate run.made.tells one in
@@ -151,19 +152,19 @@ module _ {T : Type 0} (s : Setting T) (words : ServeWords) (before after : Progr
     all_out : wants_line run.first.fate run.how ≡ false → has_cut run.first.fate run.how ≡ false
         → GetsAll
         (serving_line words.port words.workers ++ (pass_saying run.first.end).out
-        ++ lines_behind s words.roots words.secs run.first run.how run.last run.passes)
+        ++ lines_behind s (scope_in words) words.secs run.first run.how run.last run.passes)
         before.command.streams.out after.command.streams.out
     all_out wants cut =
-        let made = first_made s words.roots words.secs run.first.fate run.how wants in
-        let whole = first_whole s words.roots words.secs run.first.fate run.how cut in
+        let made = first_made s (scope_in words) words.secs run.first.fate run.how wants in
+        let whole = first_whole s (scope_in words) words.secs run.first.fate run.how cut in
         subst
         (λ (shown : ShownStream). GetsAll
         (serving_line words.port words.workers ++ (pass_saying run.first.end).out
-        ++ lines_behind s words.roots words.secs run.first run.how run.last run.passes)
+        ++ lines_behind s (scope_in words) words.secs run.first run.how run.last run.passes)
         before.command.streams.out shown) (sym run.out)
         (gets_both
         (gets_both run.line.out (out_whole run.first.end run.told run.first.after.streams run.first.fate run.made.tells whole made))
-        (on_out s words.roots words.secs run.first run.how run.last run.passes wants cut))
+        (on_out s (scope_in words) words.secs run.first run.how run.last run.passes wants cut))
 
   -- where none of the four things came, all went well
   abbrev IsWellFrom : Status → Type 0
@@ -239,10 +240,10 @@ module _ {T : Type 0} (s : Setting T) (words : ServeWords) (before after : Progr
   serve_ends code (unopened fault run) = record {
     bad = λ tells bad.
         subst (EndsOnlyWith status.BadRow before.command.store after.command.store) (sym run.said.ends)
-        (bad_end s words.path words.roots before.command after.command (scanned.Refused fault) tells bad run.scans);
+        (bad_end s words.path (scope_in words) before.command after.command (scanned.Refused fault) tells bad run.scans);
     overfull = λ tells full.
         subst (EndsOnlyWith status.Limit before.command.store after.command.store) (sym run.said.ends)
-        (full_end s words.path words.roots before.command after.command (scanned.Refused fault) tells full run.scans);
+        (full_end s words.path (scope_in words) before.command after.command (scanned.Refused fault) tells full run.scans);
   }
   serve_ends code (unserved run) = record {
     bad = λ tells bad. absurd (none_bad bad.fault (told_rows run.found tells run.held) bad.held bad.bad);
@@ -261,7 +262,7 @@ module _ {T : Type 0} (s : Setting T) (words : ServeWords) (before after : Progr
       unopened refusal.OutOfMemory (record {
         scans =
             subst
-            (λ (left : List T). Scans s words.path words.roots before.command.hands left before.command.store after.command.store (scanned.Refused refusal.OutOfMemory))
+            (λ (left : List T). Scans s words.path (scope_in words) before.command.hands left before.command.store after.command.store (scanned.Refused refusal.OutOfMemory))
             (sym hands) (scans_wanting s words.path some store);
         said = said;
         rest = rest;

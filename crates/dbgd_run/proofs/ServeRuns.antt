@@ -28,7 +28,7 @@ use Rattle.dbgd_commands.specs.declared.status.Status.{Status}
 use Rattle.dbgd_commands.specs.declared.status.Status.TheVariants as status
 use Rattle.dbgd_commands.proofs.HandLemmas.{hands_stay}
 use Rattle.dbgd_run.specs.Rounds.{pass_stage}
-use Rattle.dbgd_run.specs.Serve.{MakesRound, RunsServe, ServeWords, served, served_setting, unopened, unserved}
+use Rattle.dbgd_run.specs.Serve.{MakesRound, RunsServe, ServeWords, scope_in, served, served_setting, unopened, unserved}
 use Rattle.dbgd_run.specs.ServeSaid.{SaysServeEnd, door_line, door_lines, end_line, ended_badly, has_cut, has_failed, is_any_failed, served_status, serving_line, serving_saying, wants_line}
 use Rattle.dbgd_run.specs.Serving.{LeavesCrew, ServeStage, ServesStore, serve_setting}
 use Rattle.dbgd_run.specs.Workers.{AreWorkers, IsFreshShare, ServedBy, WorkerFacts, WorkerServed, doors_at, ends_at, hands_at, links_at, shares_at, worker_in, workers_at}
@@ -202,7 +202,7 @@ module _ {T D L : Type 0} (s : Setting T) (words : ServeWords) (sees : D → Sho
   pub runs_serve : (how : ServeEnd) → length front ≡ words.workers + 2 → length workers ≡ words.workers
       → length after.hands ≡ words.workers + 2 → length after.workers ≡ words.workers → All (IsFreshShare book) (shares_at workers) → IsFreshShare book share
       → book.rows ≡ words.workers + 1 → All (λ (row : Vec L). length row.items ≡ length words.upstream) (links_at workers)
-      → ServesStore (serve_setting s words.roots words.secs (served_setting s words) sees views) words.path
+      → ServesStore (serve_setting s (scope_in words) words.secs (served_setting s words) sees views) words.path
       (serving_line words.port words.workers) old new (pass_stage [] front woke before share) workers how after
       → SaysServeEnd how (ends_at after.workers) after.streams after_streams code
       → RunsServe s words (stage (command_stage (front ++ (hands_at workers ++ rest)) old before) (map sees (doors_at workers)) (rows_shown views (links_at workers ++ others)) woke)
@@ -210,7 +210,7 @@ module _ {T D L : Type 0} (s : Setting T) (words : ServeWords) (sees : D → Sho
   runs_serve (Refused fault) long many back count fresh own sized linked store said = unopened fault (record {
     scans =
         let sum = length-append front (hands_at workers ++ rest) in
-        subst (λ (hands : List T). Scans s words.path words.roots (front ++ (hands_at workers ++ rest)) hands old new (scanned.Refused fault))
+        subst (λ (hands : List T). Scans s words.path (scope_in words) (front ++ (hands_at workers ++ rest)) hands old new (scanned.Refused fault))
         (sym (hands_back store.same))
         (record {
           ends = record { hands = refl; store = store.scans.ends.store };
@@ -265,7 +265,7 @@ module _ {T D L : Type 0} (s : Setting T) (words : ServeWords) (sees : D → Sho
         fresh = own;
         first = from.first;
         made =
-            subst (λ (hands : List T). MakesRound s words.roots (pass_stage (puts_of (current store.found)) hands woke store.told share) from.first)
+            subst (λ (hands : List T). MakesRound s (scope_in words) (pass_stage (puts_of (current store.found)) hands woke store.told share) from.first)
             (sym (first_hands n front (hands_at workers) rest long begin_hands)) from.made;
         passed = from.passed;
         workers = workers_at sees views workers;

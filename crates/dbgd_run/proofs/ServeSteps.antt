@@ -44,9 +44,9 @@ some_on secs Cut e = some_more secs e
 
 module _ {T D L : Type 0} (r : ServeSetting T D L) (before : PassStage T) (workers : List (Worker T D L)) (first : Round T) where
   pub serves_from : (how : Option PassesEnd) (joined : List Change) (after : ServeStage T D L) (passing : Bool)
-      → MakesRound r.setting r.roots before first → passing ≡ goes_on r.secs first.fate → IsPrefix first.after.log joined
+      → MakesRound r.setting r.scope before first → passing ≡ goes_on r.secs first.fate → IsPrefix first.after.log joined
       → AllZip (WorkerServed r.doors r.sees r.views first.after.log joined) workers after.workers
-      → GoesOn r.setting r.roots r.secs passing first.after how joined after
+      → GoesOn r.setting r.scope r.secs passing first.after how joined after
       → ServesFrom r before workers first.fate how joined after
   serves_from None joined after passing made is later doors on = record {
     first = first;

@@ -99,7 +99,7 @@ module _ {K T D L : Type 0} (r : ServeSetting T D L) (shows : K → ShownKeeper)
       → ServesStore r path line from into before workers end after
   store_opened (Refused fault) after opened back some run = record {
     scans =
-        subst (λ (hands : List T). Scans r.setting path r.roots before.hands hands from into (scanned.Refused fault))
+        subst (λ (hands : List T). Scans r.setting path r.scope before.hands hands from into (scanned.Refused fault))
         (sym run.same.0)
         (scans_opened r.setting path (scanned.Refused fault) opened back
         (record { hands = refl; store = refused_by r.setting.tells_tables shows opened.holds back fault run.refuses run.left })

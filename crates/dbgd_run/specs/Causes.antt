@@ -8,6 +8,7 @@ use Rattle.dbgd_commands.specs.QueryCauses.{QueryStatus}
 use Rattle.dbgd_commands.specs.Stage.{CommandStage, ProgramStage, Setting}
 use Rattle.dbgd_commands.specs.declared.status.Status.{Status}
 use Rattle.dbgd_commands.specs.declared.status.Status.TheVariants.{Done, Fault, Usage, OutOfMemory}
+use Rattle.dbgd_run.specs.Selecting.{SelectStatus, scope_by}
 use Rattle.dbgd_run.specs.Serve.{serve_words}
 use Rattle.dbgd_run.specs.ServeCauses.{ServeStatus}
 
@@ -30,11 +31,12 @@ HasStatus s words (asks_ident path) before after status = FileStatus s before.co
 HasStatus s words (asks_sources path) before after status = FileStatus s before.command after.command status
 HasStatus s words (asks_section path name) before after status = FileStatus s before.command after.command status
 HasStatus s words (asks_query path id) before after status = QueryStatus s id before.command after.command status
-HasStatus s words (asks_scan path workers roots) before after status =
-    ScanStatus s roots before.command after.command status
+HasStatus s words (asks_scan path workers patterns roots) before after status =
+    SelectStatus patterns status (ScanStatus s (scope_by patterns roots) before.command after.command status)
 HasStatus s words (asks_trial seed files workers) before after status =
     TrialStatus seed files before.command after.command status
 HasStatus s words asks_help before after status = HelpStatus before.command after.command status
-HasStatus s words (asks_serve path workers port secs sources upstream roots) before after status =
-    ServeStatus s (serve_words path workers port secs sources upstream roots) before after status
+HasStatus s words (asks_serve path workers port secs sources upstream patterns roots) before after status =
+    SelectStatus patterns status
+    (ServeStatus s (serve_words path workers port secs sources upstream patterns roots) before after status)
 HasStatus s words unreadable before after status = UsageStatus words status

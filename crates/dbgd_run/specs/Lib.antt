@@ -4,6 +4,7 @@ pub mod Needs
 pub mod RoundSaid
 pub mod Rounds
 pub mod Runs
+pub mod Selecting
 pub mod Serve
 pub mod ServeCauses
 pub mod ServeComplete

@@ -9,28 +9,28 @@ abbrev pub hands_of : Line → ℕ
 hands_of (asks_ident path) = 1
 hands_of (asks_sources path) = 1
 hands_of (asks_section path name) = 1
-hands_of (asks_scan path workers roots) = min (workers + 2) (2 ^ 64 - 1)
-hands_of (asks_serve path workers port secs sources upstream roots) = min (workers * 2 + 2) (2 ^ 64 - 1)
+hands_of (asks_scan path workers patterns roots) = min (workers + 2) (2 ^ 64 - 1)
+hands_of (asks_serve path workers port secs sources upstream patterns roots) = min (workers * 2 + 2) (2 ^ 64 - 1)
 hands_of _ = 0
 
 -- the doors: one for each worker of a server
 abbrev pub doors_of : Line → ℕ
-doors_of (asks_serve path workers port secs sources upstream roots) = workers
+doors_of (asks_serve path workers port secs sources upstream patterns roots) = workers
 doors_of _ = 0
 
 -- the port of the doors; there is none without doors
 abbrev pub port_of : Line → ℕ
-port_of (asks_serve path workers port secs sources upstream roots) = port
+port_of (asks_serve path workers port secs sources upstream patterns roots) = port
 port_of _ = 0
 
 -- the servers that a server asks for what isn't here, in order: a row of links has one to each
 abbrev pub servers_of : Line → List ServerFacts
-servers_of (asks_serve path workers port secs sources upstream roots) = upstream
+servers_of (asks_serve path workers port secs sources upstream patterns roots) = upstream
 servers_of _ = []
 
 -- whether a line asks for a server
 abbrev pub is_serve : Line → Bool
-is_serve (asks_serve path workers port secs sources upstream roots) = true
+is_serve (asks_serve path workers port secs sources upstream patterns roots) = true
 is_serve _ = false
 
 -- where a hand is needed there is one

@@ -4,6 +4,7 @@
 use Rattle.std.specs.Prelude.{◌≡◌, ◌⊎◌, ℕ, ◌<◌, ◌≤◌, Bool, true, false, List, [], ◌∷◌, ◌++◌, map, drop, length, Option, IsTrue, sum_by}
 use Rattle.std.specs.List.{flat_map, list_any}
 use mathlib.Core.List.{IsPrefix}
+use Rattle.path_scope.specs.Scope.{Scope}
 use Rattle.row_types.specs.Faults.{Rose}
 use Rattle.index_rows.specs.declared.change.Change.{Change}
 use Rattle.tree_trait.specs.Clock.{Wakes, waited}
@@ -46,44 +47,44 @@ pub record Round (T : Type 0) : Type 0 where
   pub fate : LineFate
   pub after : PassStage T
 
--- one pass over the roots was made with the hands over an index that others share, and ended so: what is said of its end,
+-- one pass over the scope was made with the hands over an index that others share, and ended so: what is said of its end,
 -- of the hands and of their faults, and where nothing stands against it
-pub record PassesShared {T : Type 0} (s : Setting T) (roots : List (List ℕ)) (end : PassEnd)
+pub record PassesShared {T : Type 0} (s : Setting T) (scope : Scope) (end : PassEnd)
     (before after : PassStage T) : Type 0 where
   pub later : IsPrefix before.log after.log
   pub ends :
       HandsGo
-      (λ hand left. EndsShared s.world s.tells_files roots before.log after.log (s.sees hand)
+      (λ hand left. EndsShared s.world s.tells_files scope before.log after.log (s.sees hand)
       (s.sees left) end)
       (λ hand left. Helps s.tells_files s.world.version [] [] (s.sees hand) (s.sees left))
       before.hands after.hands
   pub goes :
       HandsGo
       (λ hand left. HandsOn s.tells_files s.world.version (s.sees hand) (s.sees left)
-      (0 < length roots) (IsTrue (is_hand_fault end)))
+      (0 < length scope.roots) (IsTrue (is_hand_fault end)))
       (λ hand left. HandsOn s.tells_files s.world.version (s.sees hand) (s.sees left) ⊥ ⊥)
       before.hands after.hands
   pub idle : IsTrue (is_unbegun end) → drop 1 after.hands ≡ drop 1 before.hands
   pub complete :
       HandsGo
-      (λ hand left. IsUnhinderedPass s.tells_files roots after.log (s.sees hand) (s.sees left)
+      (λ hand left. IsUnhinderedPass s.tells_files scope after.log (s.sees hand) (s.sees left)
       → IsDoneShared after.log end)
       (λ hand left. HandsOn s.tells_files s.world.version (s.sees hand) (s.sees left) ⊥ ⊥)
       before.hands after.hands
 
 -- the clock was waited for and said Again, and one pass was made, said and counted
-pub record IsRound {T : Type 0} (s : Setting T) (roots : List (List ℕ)) (secs : ℕ)
+pub record IsRound {T : Type 0} (s : Setting T) (scope : Scope) (secs : ℕ)
     (before : PassStage T) (round : Round T) : Type 0 where
   pub waits : Wakes before.woke secs Again round.after.woke
-  pub passes : PassesShared s roots round.end before round.after
+  pub passes : PassesShared s scope round.end before round.after
   pub tells : TellsPass round.end before.streams round.after.streams round.fate
   pub counts : CountsPass round.end before.share round.after.share
 
 -- these rounds, each from the stage that the one before it left
-abbrev pub RoundsGo : {T : Type 0} → Setting T → List (List ℕ) → ℕ → PassStage T → List (Round T) → PassStage T → Type 0
-RoundsGo s roots secs before [] after = after ≡ before
-RoundsGo s roots secs before (round ∷ later) after =
-    IsRound s roots secs before round × RoundsGo s roots secs round.after later after
+abbrev pub RoundsGo : {T : Type 0} → Setting T → Scope → ℕ → PassStage T → List (Round T) → PassStage T → Type 0
+RoundsGo s scope secs before [] after = after ≡ before
+RoundsGo s scope secs before (round ∷ later) after =
+    IsRound s scope secs before round × RoundsGo s scope secs round.after later after
 
 -- whether the standard output refused the line of some round
 abbrev pub is_any_cut : {T : Type 0} → List (Round T) → Bool
@@ -141,11 +142,11 @@ pub record GetsLines (bytes : List ℕ) (before after : ShownStream) : Type 0 wh
 -- a pass was made after each Again of the clock, one after the other, until the passing ended. One wait is told for each
 -- round; where it Stopped the standard output got exactly the lines of the whole passes, it failed only where that count
 -- rose; and the share counted exactly the whole passes
-pub record KeepsPassing {T : Type 0} (s : Setting T) (roots : List (List ℕ)) (secs : ℕ)
+pub record KeepsPassing {T : Type 0} (s : Setting T) (scope : Scope) (secs : ℕ)
     (before : PassStage T) (end : PassesEnd) (after : PassStage T) : Type 0 where
   pub rounds : List (Round T)
   pub last : PassStage T
-  pub go : RoundsGo s roots secs before rounds last
+  pub go : RoundsGo s scope secs before rounds last
   pub ends : EndsPassing secs rounds last end after
   pub waits : Gains before.woke (waits_by secs rounds end) after.woke
   pub out : end ≡ Stopped → GetsAll (out_lines rounds) before.streams.out after.streams.out

@@ -3,11 +3,12 @@ use Rattle.std.specs.Prelude.{◌≡◌, ◌⊎◌, ℕ, Bool, true, false, List
 use Rattle.federation.specs.Server.{ServerFacts}
 use Rattle.file_formats.specs.Parts.{IsSomePart, IsSomeSection}
 use Rattle.file_formats.specs.Windows.{IsSomeWindow}
+use Rattle.path_scope.specs.Scope.{Scope}
+use Rattle.dbgd_words.specs.Patterns.{PatternTexts}
 use Rattle.dbgd_words.specs.Words.{Line, asks_help, asks_ident, asks_query, asks_scan, asks_section}
 use Rattle.dbgd_words.specs.Words.{asks_serve, asks_sources, asks_trial, has_options, line_of, unreadable}
 use Rattle.dbgd_commands.specs.CommandCauses.{ScanEnds}
-use Rattle.dbgd_commands.specs.Endings.{EndsSaying, EndsWhole, Saying, SaysMemory, error_saying}
-use Rattle.dbgd_commands.specs.Endings.{no_memory_saying, out_saying}
+use Rattle.dbgd_commands.specs.Endings.{EndsSaying, SaysMemory, no_memory_saying, out_saying}
 use Rattle.dbgd_commands.specs.File.{RunsFile}
 use Rattle.dbgd_commands.specs.Ident.{SaysIdent}
 use Rattle.dbgd_commands.specs.Query.{RunsQuery}
@@ -17,26 +18,15 @@ use Rattle.dbgd_commands.specs.Stage.{CommandStage, LeavesRest, ProgramStage, Se
 use Rattle.dbgd_commands.specs.Section.{SaysSection}
 use Rattle.dbgd_commands.specs.Sources.{SaysSources}
 use Rattle.dbgd_commands.specs.Statuses.{code_of}
-use Rattle.dbgd_commands.specs.Texts.{usage_text}
 use Rattle.dbgd_commands.specs.Trial.{RunsTrial}
 use Rattle.dbgd_commands.specs.declared.status.Status.{Status}
-use Rattle.dbgd_commands.specs.declared.status.Status.TheVariants.{Done, Usage}
+use Rattle.dbgd_commands.specs.declared.status.Status.TheVariants.{Done}
 use Rattle.dbgd_run.specs.Causes.{HasStatus}
 use Rattle.dbgd_run.specs.Needs.{is_serve}
-use Rattle.dbgd_run.specs.Serve.{RunsServe, ServeWords, serve_words}
+use Rattle.dbgd_run.specs.Selecting.{SaysAlone, Selects, scope_by, usage_saying}
+use Rattle.dbgd_run.specs.Serve.{RunsServe, ServeWords, scope_in, serve_words}
 use Rattle.dbgd_run.specs.ServeCauses.{ServeEnds}
 use Rattle.dbgd_run.specs.ServeComplete.{CompletesServe, IsFreeServe}
-
--- of words that can't be read
-abbrev pub usage_saying : Saying
-usage_saying = error_saying usage_text Usage
-
--- what is said without a look at the hands or the store
-pub record SaysAlone {T : Type 0} (saying : Saying) (before after : CommandStage T)
-    (status : Status) : Type 0 where
-  pub says : EndsWhole saying before.streams after.streams status
-  pub hands : after.hands ≡ before.hands
-  pub store : after.store ≡ before.store
 
 -- a help or version: its text was said on the standard output, or memory was refused; hands and store weren't looked at
 pub record SaysHelp {T : Type 0} (before after : CommandStage T) (status : Status) : Type 0 where
@@ -54,26 +44,26 @@ pub record IsQueryRun {T : Type 0} (s : Setting T) (path id : List ℕ)
   pub ends : QueryEnds s before after status
 
 -- a scan: what it does, and how it ends when
-pub record IsScanRun {T : Type 0} (s : Setting T) (path : List ℕ) (workers : ℕ) (roots : List (List ℕ))
+pub record IsScanRun {T : Type 0} (s : Setting T) (path : List ℕ) (workers : ℕ) (scope : Scope)
     (before after : CommandStage T) (status : Status) : Type 0 where
-  pub does : RunsScan s path workers roots before after status
-  pub ends : ScanEnds s roots before after status
+  pub does : RunsScan s path workers scope before after status
+  pub ends : ScanEnds s scope before after status
 
 -- a server: what it does, how it ends when, and that each of its passes writes its line where nothing stands against it
 pub record IsServeRun {T : Type 0} (s : Setting T) (words : ServeWords) (before after : ProgramStage T) (status : Status)
     : Type 0 where
   pub does : RunsServe s words before after status
   pub ends : ServeEnds s before after status
-  pub complete : IsFreeServe s words.roots before after → CompletesServe s words before after status does
+  pub complete : IsFreeServe s (scope_in words) before after → CompletesServe s words before after status does
 
 -- whether a line asks for what threads do: a scan, of folders or of generated files, or a server
 abbrev pub takes_threads : Line → Bool
-takes_threads (asks_scan path workers roots) = true
-takes_threads (asks_serve path workers port secs sources upstream roots) = true
+takes_threads (asks_scan path workers patterns roots) = true
+takes_threads (asks_serve path workers port secs sources upstream patterns roots) = true
 takes_threads (asks_trial seed files workers) = true
 takes_threads _ = false
 
--- what a line of words does that asks for no server, by what it asks
+-- what a line of words does that selects no files, by what it asks
 abbrev pub Runs : {T : Type 0} → Setting T → Line → CommandStage T → CommandStage T → Status → Type 0
 Runs s (asks_ident path) before after status =
     RunsFile s path (SaysIdent path) IsSomeWindow before after status
@@ -82,14 +72,13 @@ Runs s (asks_sources path) before after status =
 Runs s (asks_section path name) before after status =
     RunsFile s path (SaysSection path name) (IsSomeSection name) before after status
 Runs s (asks_query path id) before after status = RunsQuery s path id before after status
-Runs s (asks_scan path workers roots) before after status =
-    RunsScan s path workers roots before after status
+Runs s (asks_scan path workers patterns roots) before after status = ⊥
 Runs s (asks_trial seed files workers) before after status = RunsTrial seed files before after status
 Runs s asks_help before after status = SaysHelp before after status
-Runs s (asks_serve path workers port secs sources upstream roots) before after status = ⊥
+Runs s (asks_serve path workers port secs sources upstream patterns roots) before after status = ⊥
 Runs s unreadable before after status = SaysAlone usage_saying before after status
 
--- a line that asks for no server, on all that there is: doors, links and clock are as they were
+-- a line that selects no files, on all that there is: doors, links and clock are as they were
 pub record RunsApart {T : Type 0} (s : Setting T) (line : Line) (before after : ProgramStage T) (status : Status)
     : Type 0 where
   pub runs : Runs s line before.command after.command status
@@ -97,8 +86,12 @@ pub record RunsApart {T : Type 0} (s : Setting T) (line : Line) (before after : 
 
 -- what a line of words does, by what it asks
 abbrev pub DoesLine : {T : Type 0} → Setting T → Line → ProgramStage T → ProgramStage T → Status → Type 0
-DoesLine s (asks_serve path workers port secs sources upstream roots) before after status =
-    RunsServe s (serve_words path workers port secs sources upstream roots) before after status
+DoesLine s (asks_scan path workers patterns roots) before after status =
+    Selects patterns before after status
+    (RunsScan s path workers (scope_by patterns roots) before.command after.command status × LeavesRest before after)
+DoesLine s (asks_serve path workers port secs sources upstream patterns roots) before after status =
+    Selects patterns before after status
+    (RunsServe s (serve_words path workers port secs sources upstream patterns roots) before after status)
 DoesLine s line before after status = RunsApart s line before after status
 
 -- the words are read as options, and memory was refused for that
@@ -127,16 +120,18 @@ pub record IsProgramRun {T : Type 0} (s : Setting T) (words : List (List ℕ)) (
       → RunsFile s path (SaysSection path name) (IsSomeSection name) before.command after.command status
   pub query : (path id : List ℕ) → line_of words ≡ asks_query path id
       → IsQueryRun s path id before.command after.command status
-  pub scan : (path : List ℕ) (workers : ℕ) (roots : List (List ℕ))
-      → line_of words ≡ asks_scan path workers roots
-      → IsScanRun s path workers roots before.command after.command status
+  pub scan : (path : List ℕ) (workers : ℕ) (patterns : PatternTexts) (roots : List (List ℕ))
+      → line_of words ≡ asks_scan path workers patterns roots
+      → Selects patterns before after status
+      (IsScanRun s path workers (scope_by patterns roots) before.command after.command status)
   pub trial : (seed files workers : ℕ) → line_of words ≡ asks_trial seed files workers
       → RunsTrial seed files before.command after.command status
   pub help : line_of words ≡ asks_help → SaysHelp before.command after.command status
   pub serve : (path : List ℕ) (workers port secs : ℕ) (sources : List (List ℕ)) (upstream : List ServerFacts)
-      (roots : List (List ℕ))
-      → line_of words ≡ asks_serve path workers port secs sources upstream roots
-      → IsServeRun s (serve_words path workers port secs sources upstream roots) before after status
+      (patterns : PatternTexts) (roots : List (List ℕ))
+      → line_of words ≡ asks_serve path workers port secs sources upstream patterns roots
+      → Selects patterns before after status
+      (IsServeRun s (serve_words path workers port secs sources upstream patterns roots) before after status)
   pub usage : line_of words ≡ unreadable
       → SaysAlone usage_saying before.command after.command status ⊎ LacksRoom words before after status
   pub causes : HasStatus s words (line_of words) before after status

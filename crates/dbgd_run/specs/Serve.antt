@@ -15,7 +15,9 @@ use Rattle.index_state.specs.Invariant.{AreTrueRows}
 use Rattle.index_state.specs.Opening.{current, made_swept, puts_of}
 use Rattle.index_state.specs.State.{lasting}
 use Rattle.index_state.specs.declared.open_fault.OpenFault.{OpenFault}
+use Rattle.path_scope.specs.Scope.{Scope}
 use Rattle.federation.specs.Server.{ServerFacts}
+use Rattle.dbgd_words.specs.Patterns.{PatternTexts}
 use Rattle.dbgd_metrics.specs.Shares.{BookFacts, ShareFacts}
 use Rattle.conn_server.specs.Stage.{ConnSetting, conn_setting}
 use Rattle.dbgd_commands.specs.Endings.{EndsCut, EndsWhole, Gets, Streams, SaysMemory}
@@ -26,6 +28,7 @@ use Rattle.dbgd_commands.specs.Stage.{LeavesRest, ProgramStage, Setting}
 use Rattle.dbgd_commands.specs.declared.scan_end.ScanEnd.TheVariants.{Refused}
 use Rattle.dbgd_commands.specs.declared.status.Status.{Status}
 use Rattle.dbgd_commands.specs.declared.status.Status.TheVariants.{Done}
+use Rattle.dbgd_run.specs.Selecting.{scope_by}
 use Rattle.dbgd_run.specs.RoundSaid.{CountsPass, TellsPass}
 use Rattle.dbgd_run.specs.Rounds.{KeepsPassing, PassesShared, PassStage, Round, pass_stage}
 use Rattle.dbgd_run.specs.ServeSaid.{door_lines, has_cut, is_any_failed, served_status, serving_saying, wants_line}
@@ -41,19 +44,26 @@ pub record ServeWords : Type 0 where
   pub secs : ℕ
   pub sources : List (List ℕ)
   pub upstream : List ServerFacts
+  pub patterns : PatternTexts
   pub roots : List (List ℕ)
 
 -- the words of these
-abbrev pub serve_words : List ℕ → ℕ → ℕ → ℕ → List (List ℕ) → List ServerFacts → List (List ℕ) → ServeWords
-serve_words path workers port secs sources upstream roots = record {
+abbrev pub serve_words : List ℕ → ℕ → ℕ → ℕ → List (List ℕ) → List ServerFacts → PatternTexts → List (List ℕ)
+    → ServeWords
+serve_words path workers port secs sources upstream patterns roots = record {
   path = path;
   workers = workers;
   port = port;
   secs = secs;
   sources = sources;
   upstream = upstream;
+  patterns = patterns;
   roots = roots;
 }
+
+-- the roots of a server's passes, and the paths that its patterns select
+abbrev pub scope_in : ServeWords → Scope
+scope_in words = scope_by words.patterns words.roots
 
 -- what stays while doors are served: what a run rests on, the folders of sources, and how many rows the counter table has
 abbrev pub doors_setting : {T : Type 0} → Setting T → List (List ℕ) → ℕ → ConnSetting T
@@ -68,7 +78,7 @@ served_setting s words = doors_setting s (words.roots ++ words.sources) (words.w
 pub record IsUnopened {T : Type 0} (s : Setting T) (words : ServeWords) (before after : ProgramStage T) (fault : OpenFault)
     (status : Status) : Type 0 where
   pub scans :
-      Scans s words.path words.roots before.command.hands after.command.hands before.command.store after.command.store (Refused fault)
+      Scans s words.path (scope_in words) before.command.hands after.command.hands before.command.store after.command.store (Refused fault)
   pub said : EndsWhole (refusal_saying fault) before.command.streams after.command.streams status
   pub rest : LeavesRest before after
 
@@ -118,18 +128,18 @@ pub record HasServedLog (true_row : RowFacts → Type 0) (told : Bool) (found : 
   pub may_have : broken ≡ true → MayHaveRows true_row told new rows
 
 -- one pass was made, said and counted, without a wait
-pub record MakesRound {T : Type 0} (s : Setting T) (roots : List (List ℕ)) (before : PassStage T) (round : Round T)
+pub record MakesRound {T : Type 0} (s : Setting T) (scope : Scope) (before : PassStage T) (round : Round T)
     : Type 0 where
-  pub passes : PassesShared s roots round.end before round.after
+  pub passes : PassesShared s scope round.end before round.after
   pub tells : TellsPass round.end before.streams round.after.streams round.fate
   pub counts : CountsPass round.end before.share round.after.share
   pub woke : round.after.woke ≡ before.woke
 
 -- the passes behind the first one: none where no time between them is given, or where the line of the first one could not be
 -- made; else those of the clock
-abbrev pub PassesOn : {T : Type 0} → Setting T → List (List ℕ) → ℕ → Round T → Option PassesEnd → PassStage T → Type 0
-PassesOn s roots secs first None after = ((secs ≡ 0) ⊎ (first.fate ≡ Unmade)) × (after ≡ first.after)
-PassesOn s roots secs first (Some end) after = (0 < secs) × KeepsPassing s roots secs first.after end after
+abbrev pub PassesOn : {T : Type 0} → Setting T → Scope → ℕ → Round T → Option PassesEnd → PassStage T → Type 0
+PassesOn s scope secs first None after = ((secs ≡ 0) ⊎ (first.fate ≡ Unmade)) × (after ≡ first.after)
+PassesOn s scope secs first (Some end) after = (0 < secs) × KeepsPassing s scope secs first.after end after
 
 -- the doors were served beside the passes. The first line was written whole, a first pass was made with the first hands, two and
 -- one for each worker, and what it was is said of the log of the opening and of the one that its token had seen then. Each door
@@ -154,7 +164,7 @@ pub record HasServed {T : Type 0} (s : Setting T) (words : ServeWords) (before a
   pub fresh : IsFreshShare book share
   pub first : Round T
   pub made :
-      MakesRound s words.roots
+      MakesRound s (scope_in words)
       (pass_stage (puts_of (current found)) (take (words.workers + 2) before.command.hands) before.woke told share) first
   pub passed : IsPrefix first.after.log log
   pub workers : List (WorkerFacts T)
@@ -170,7 +180,7 @@ pub record HasServed {T : Type 0} (s : Setting T) (words : ServeWords) (before a
   pub doors : AllZip (ServedBy (served_setting s words) first.after.log log) workers left
   pub how : Option PassesEnd
   pub last : PassStage T
-  pub passes : PassesOn s words.roots words.secs first how last
+  pub passes : PassesOn s (scope_in words) words.secs first how last
   pub within : IsPrefix last.log log
   pub hands : take (words.workers + 2) after.command.hands ≡ last.hands
   pub others : drop (words.workers * 2 + 2) after.command.hands ≡ drop (words.workers * 2 + 2) before.command.hands

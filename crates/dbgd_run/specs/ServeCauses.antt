@@ -1,5 +1,6 @@
 -- What the status of a server says (this project's rule).
 use Rattle.std.specs.Prelude.{◌≡◌, ◌⊎◌, ℕ, List, [], ◌∷◌, ◌++◌, All, Option, Some, None, IsTrue}
+use Rattle.path_scope.specs.Scope.{Scope}
 use Rattle.row_types.specs.Faults.{Rose}
 use Rattle.http_wire.specs.Door.{ShownDoor}
 use Rattle.http_wire.specs.Sink.{GetsAll}
@@ -12,7 +13,7 @@ use Rattle.dbgd_commands.specs.Stage.{ProgramStage, Setting}
 use Rattle.dbgd_commands.specs.declared.status.Status.{Status}
 use Rattle.dbgd_commands.specs.declared.status.Status.TheVariants.{Done, Fault, Limit, OutOfMemory, BadRow}
 use Rattle.dbgd_run.specs.Rounds.{PassStage, Round, out_lines}
-use Rattle.dbgd_run.specs.Serve.{HasServed, PassesOn, ServeWords}
+use Rattle.dbgd_run.specs.Serve.{HasServed, PassesOn, ServeWords, scope_in}
 use Rattle.dbgd_run.specs.ServeSaid.{serving_line}
 use Rattle.dbgd_run.specs.declared.passes_end.PassesEnd.{PassesEnd}
 
@@ -22,15 +23,15 @@ SomeDoorRose (before ∷ more) (after ∷ rest) = Rose before.faults after.fault
 SomeDoorRose _ _ = ⊥
 
 -- the passes behind the first one, in order
-abbrev pub rounds_behind : {T : Type 0} (s : Setting T) (roots : List (List ℕ)) (secs : ℕ) (first : Round T)
-    (how : Option PassesEnd) (last : PassStage T) → PassesOn s roots secs first how last → List (Round T)
-rounds_behind s roots secs first None last none = []
-rounds_behind s roots secs first (Some end) last kept = kept.1.rounds
+abbrev pub rounds_behind : {T : Type 0} (s : Setting T) (scope : Scope) (secs : ℕ) (first : Round T)
+    (how : Option PassesEnd) (last : PassStage T) → PassesOn s scope secs first how last → List (Round T)
+rounds_behind s scope secs first None last none = []
+rounds_behind s scope secs first (Some end) last kept = kept.1.rounds
 
 -- the lines of the whole ones of them, in order
-abbrev pub lines_behind : {T : Type 0} (s : Setting T) (roots : List (List ℕ)) (secs : ℕ) (first : Round T)
-    (how : Option PassesEnd) (last : PassStage T) → PassesOn s roots secs first how last → List ℕ
-lines_behind s roots secs first how last passes = out_lines (rounds_behind s roots secs first how last passes)
+abbrev pub lines_behind : {T : Type 0} (s : Setting T) (scope : Scope) (secs : ℕ) (first : Round T)
+    (how : Option PassesEnd) (last : PassStage T) → PassesOn s scope secs first how last → List ℕ
+lines_behind s scope secs first how last passes = out_lines (rounds_behind s scope secs first how last passes)
 
 -- the doors were served until each of them closed; the store made each change; and the standard output got exactly the first line
 -- and then the whole line of each whole pass, in order
@@ -41,7 +42,7 @@ pub record IsServedWell {T : Type 0} (s : Setting T) (words : ServeWords) (befor
   pub out :
       GetsAll
       (serving_line words.port words.workers ++ (pass_saying serves.first.end).out
-      ++ lines_behind s words.roots words.secs serves.first serves.how serves.last serves.passes)
+      ++ lines_behind s (scope_in words) words.secs serves.first serves.how serves.last serves.passes)
       before.command.streams.out after.command.streams.out
 
 -- of a server: no path is missing and no file is altered, and the words were read

@@ -1,5 +1,6 @@
 -- When each pass of a server writes its line (this project's rule): where nothing stands against it.
 use Rattle.std.specs.Prelude.{◌≡◌, ℕ, ◌≤◌, ◌<◌, List, ◌∷◌, All, length, IsTrue}
+use Rattle.path_scope.specs.Scope.{Scope}
 use Rattle.row_types.specs.Faults.{Rose}
 use Rattle.row_types.specs.Row.{RowFacts}
 use Rattle.index_rows.specs.declared.rows.TheConstants.{LOG_LIMIT}
@@ -13,15 +14,15 @@ use Rattle.dbgd_commands.specs.Stage.{OfFirst, ProgramStage, Setting}
 use Rattle.dbgd_commands.specs.declared.status.Status.{Status}
 use Rattle.dbgd_commands.specs.declared.status.Status.TheVariants.{OutOfMemory}
 use Rattle.dbgd_run.specs.Rounds.{Round}
-use Rattle.dbgd_run.specs.Serve.{RunsServe, ServeWords, served, unopened, unserved}
+use Rattle.dbgd_run.specs.Serve.{RunsServe, ServeWords, scope_in, served, unopened, unserved}
 use Rattle.dbgd_run.specs.ServeCauses.{rounds_behind}
 use Rattle.dbgd_run.specs.declared.line_fate.LineFate.{LineFate}
 use Rattle.dbgd_run.specs.declared.line_fate.LineFate.TheVariants.{Written, Unmade}
 
 -- nothing stands against the passes of a server: so it is of the first hand, the store tells that each of its values is a
 -- row, not too many of them of the edition, and neither the store's count nor that of the standard output rose
-pub record IsFreeServe {T : Type 0} (s : Setting T) (roots : List (List ℕ)) (before after : ProgramStage T) : Type 0 where
-  pub hand : OfFirst s (IsFreeHand s.tells_files roots) before.command.hands after.command.hands
+pub record IsFreeServe {T : Type 0} (s : Setting T) (scope : Scope) (before after : ProgramStage T) : Type 0 where
+  pub hand : OfFirst s (IsFreeHand s.tells_files scope) before.command.hands after.command.hands
   pub tells : IsTrue s.tells_tables
   pub rows : List RowFacts
   pub held : AreRows rows before.command.store.tables
@@ -46,4 +47,4 @@ CompletesServe s words before after status (unserved run) = status ≡ OutOfMemo
 CompletesServe {T} s words before after status (served run) =
     length run.log < LOG_LIMIT
     → All (λ (round : Round T). WritesPassLine round.end round.fate)
-    (run.first ∷ rounds_behind s words.roots words.secs run.first run.how run.last run.passes)
+    (run.first ∷ rounds_behind s (scope_in words) words.secs run.first run.how run.last run.passes)

@@ -4,6 +4,7 @@ use Rattle.std.specs.List.{AllZip}
 use mathlib.Core.List.{IsPrefix}
 use Rattle.federation.specs.Link.{ShownLink}
 use Rattle.http_wire.specs.Door.{ShownDoor}
+use Rattle.path_scope.specs.Scope.{Scope}
 use Rattle.row_types.specs.Row.{RowFacts}
 use Rattle.index_keeper.specs.Keeper.{ShownKeeper}
 use Rattle.index_keeper.specs.Store.{ShownStore}
@@ -31,21 +32,21 @@ use Rattle.dbgd_run.specs.declared.worker.Worker.{Worker}
 use Rattle.dbgd_run.specs.declared.serve_end.ServeEnd.{ServeEnd}
 use Rattle.dbgd_run.specs.declared.serve_end.ServeEnd.TheVariants.{Refused, Unannounced, Unlocked, Served}
 
--- what stays while a server runs: the setting, the folders, the seconds between passes, what doors are served with, and what
+-- what stays while a server runs: the setting, the scope of its passes, the seconds between passes, what doors are served with, and what
 -- a door and a link show
 pub record ServeSetting (T D L : Type 0) : Type 1 where
   pub setting : Setting T
-  pub roots : List (List ℕ)
+  pub scope : Scope
   pub secs : ℕ
   pub doors : ConnSetting T
   pub sees : D → ShownDoor
   pub views : L → ShownLink
 
 -- the same, field by field
-abbrev pub serve_setting : {T D L : Type 0} → Setting T → List (List ℕ) → ℕ → ConnSetting T → (D → ShownDoor) → (L → ShownLink)
+abbrev pub serve_setting : {T D L : Type 0} → Setting T → Scope → ℕ → ConnSetting T → (D → ShownDoor) → (L → ShownLink)
     → ServeSetting T D L
-serve_setting setting roots secs doors sees views =
-    record { setting = setting; roots = roots; secs = secs; doors = doors; sees = sees; views = views }
+serve_setting setting scope secs doors sees views =
+    record { setting = setting; scope = scope; secs = secs; doors = doors; sees = sees; views = views }
 
 -- what is worked with, at a moment: the hands of passes, the waits, the sinks, and the workers
 pub record ServeStage (T D L : Type 0) : Type 0 where
@@ -68,22 +69,22 @@ goes_on secs Unmade = false
 goes_on secs fate = nat_lt 0 secs
 
 -- the passes beside the doors: they end at a beginning of the log
-pub record PassesBeside {T D L : Type 0} (s : Setting T) (roots : List (List ℕ)) (secs : ℕ) (before : PassStage T)
+pub record PassesBeside {T D L : Type 0} (s : Setting T) (scope : Scope) (secs : ℕ) (before : PassStage T)
     (end : PassesEnd) (joined : List Change) (after : ServeStage T D L) : Type 0 where
   pub last : PassStage T
   pub within : IsPrefix last.log joined
-  pub keeps : KeepsPassing s roots secs before end last
+  pub keeps : KeepsPassing s scope secs before end last
   pub hands : after.hands ≡ last.hands
   pub woke : after.woke ≡ last.woke
   pub streams : after.streams ≡ last.streams
 
 -- the same, or none where none were to be made
-abbrev pub GoesOn : {T D L : Type 0} → Setting T → List (List ℕ) → ℕ → Bool → PassStage T → Option PassesEnd → List Change
+abbrev pub GoesOn : {T D L : Type 0} → Setting T → Scope → ℕ → Bool → PassStage T → Option PassesEnd → List Change
     → ServeStage T D L → Type 0
-GoesOn s roots secs passing before None joined after =
+GoesOn s scope secs passing before None joined after =
     (passing ≡ false) × (after.hands ≡ before.hands) × (after.woke ≡ before.woke) × (after.streams ≡ before.streams)
-GoesOn s roots secs passing before (Some end) joined after =
-    (passing ≡ true) × PassesBeside s roots secs before end joined after
+GoesOn s scope secs passing before (Some end) joined after =
+    (passing ≡ true) × PassesBeside s scope secs before end joined after
 
 -- a first pass was made, and then the doors were served, with passes beside them where there were any; all of it at beginnings
 -- of this log
@@ -91,11 +92,11 @@ pub record ServesFrom {T D L : Type 0} (r : ServeSetting T D L) (before : PassSt
     (fate : LineFate) (how : Option PassesEnd) (joined : List Change) (after : ServeStage T D L) : Type 0 where
   pub first : Round T
   pub fate_is : first.fate ≡ fate
-  pub made : MakesRound r.setting r.roots before first
+  pub made : MakesRound r.setting r.scope before first
   pub passed : IsPrefix first.after.log joined
   pub doors : AllZip (WorkerServed r.doors r.sees r.views first.after.log joined) workers after.workers
   pub last : PassStage T
-  pub passes : PassesOn r.setting r.roots r.secs first how last
+  pub passes : PassesOn r.setting r.scope r.secs first how last
   pub within : IsPrefix last.log joined
   pub hands : after.hands ≡ last.hands
   pub woke : after.woke ≡ last.woke
@@ -173,7 +174,7 @@ ServesKeeper r shows line opened before workers end keeper after =
 -- what came of a store, by how the server ended; a scan that no index was opened for says the same of the store
 pub record RefusesStore {T D L : Type 0} (r : ServeSetting T D L) (path : List ℕ) (old new : ShownStore) (before : PassStage T)
     (workers : List (Worker T D L)) (fault : OpenFault) (after : ServeStage T D L) : Type 0 where
-  pub scans : Scans r.setting path r.roots before.hands after.hands old new (scanned.Refused fault)
+  pub scans : Scans r.setting path r.scope before.hands after.hands old new (scanned.Refused fault)
   pub quiet : after.streams ≡ before.streams
   pub same : LeavesCrew before workers after
 

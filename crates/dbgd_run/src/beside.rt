@@ -3,6 +3,7 @@
 ghost use Rattle.std.specs.Prelude.{◌≡◌, ◌<◌, All, None, vec_len};
 ghost use Rattle.std.specs.List.{AllZip};
 ghost use Rattle.row_types.specs.Rules.{rules};
+ghost use Rattle.path_scope.specs.Scope.{scope_of};
 ghost use Rattle.index_lock.specs.Tokens.{IsLater};
 ghost use Rattle.lock_crew.specs.Runs.{SlotHas, SlotRan};
 ghost use Rattle.conn_server.specs.Stage.{conn_setting};
@@ -16,14 +17,13 @@ ghost use Rattle.dbgd_run.specs.Workers.{RunsWorker};
 use crate::door_crew::run_doors;
 use crate::passes_end::PassesEnd;
 use crate::rounds::keep_passing;
-use crate::threads::{PassTools, ThreadKinds, ThreadSite};
+use crate::threads::{PassKinds, PassTools, ThreadKinds, ThreadSite};
 use crate::worker::WorkerSlot;
 use dbgd_metrics::Book;
 use elf_reading::ElfReader;
-use http_wire::Sink;
 use std::sync::Wait;
 use std::thread::{Threads, join_mut};
-use tree_trait::{Clock, Gate};
+use tree_trait::Gate;
 
 /// Runs the one beside the other, and waits for both.
 fn beside<X: Send, E, F: Fn(&mut X) + Sync, H: FnMut() -> E, Rt: Threads>(
@@ -46,24 +46,25 @@ fn beside<X: Send, E, F: Fn(&mut X) + Sync, H: FnMut() -> E, Rt: Threads>(
 }
 
 /// Makes passes between waits with what the passes go on with.
-fn lead_passes<Y: ThreadKinds, C: Clock, O: Sink, G: Gate, Rt: Threads + Wait + Sync>(
+fn lead_passes<Y: ThreadKinds, Z: PassKinds, G: Gate, Rt: Threads + Wait + Sync>(
     shared: &ThreadSite<'_, Y::W, Y::K, G, Rt>,
     book: &Book,
     going: &mut Option<PassTools<Y::W, Y::K, Y::T>>,
-    clock: &mut C,
-    out: &mut O,
-    err: &mut O,
+    select: &mut Z::P,
+    clock: &mut Z::C,
+    out: &mut Z::O,
+    err: &mut Z::O,
 ) -> PassesEnd
     requires { SlotHas (λ tools. (tools.seat.lock ≡ shared.now.lock.now) × (tools.seat.origin.sparing ≡ None)
         × (0 < vec_len tools.hands) × HasRowIn book.now tools.share) going.old }
     ensures { SlotRan (λ before after. IsLater before.seat after.seat
         × KeepsPassing
-        (setting (rules Y.W.version Y.W.true_row Y.W.told) Y.T.told Y.T.shows Y.K.told) shared.now.site.now.roots.now
-        shared.now.site.now.secs
-        (pass_stage before.seat.seen before.hands.items (C.woke clock.old)
-        (streams O.shows out.old err.old) before.share) result
-        (pass_stage after.seat.seen after.hands.items (C.woke clock.new)
-        (streams O.shows out.new err.new) after.share)
+        (setting (rules Y.W.version Y.W.true_row Y.W.told) Y.T.told Y.T.shows Y.K.told)
+        (scope_of shared.now.site.now.roots.now (Z.P.takes select.old)) shared.now.site.now.secs
+        (pass_stage before.seat.seen before.hands.items (Z.C.woke clock.old)
+        (streams Z.O.shows out.old err.old) before.share) result
+        (pass_stage after.seat.seen after.hands.items (Z.C.woke clock.new)
+        (streams Z.O.shows out.new err.new) after.share)
         × (vec_len after.hands ≡ vec_len before.hands)) going.old going.new }
 {
     let Some(tools) = going.take() else {
@@ -79,6 +80,7 @@ fn lead_passes<Y: ThreadKinds, C: Clock, O: Sink, G: Gate, Rt: Threads + Wait + 
         seat,
         hands,
         site.roots,
+        select,
         &ElfReader,
         clock,
         site.secs,
@@ -94,14 +96,15 @@ fn lead_passes<Y: ThreadKinds, C: Clock, O: Sink, G: Gate, Rt: Threads + Wait + 
 
 /// Has the doors of the slots served while the passes go on, and waits for all. Where no thread can
 /// be made the doors are served behind the passes.
-pub(crate) fn run_beside<Y: ThreadKinds, C: Clock, O: Sink, G: Gate, Rt: Threads + Wait + Sync>(
+pub(crate) fn run_beside<Y: ThreadKinds, Z: PassKinds, G: Gate, Rt: Threads + Wait + Sync>(
     shared: &ThreadSite<'_, Y::W, Y::K, G, Rt>,
     book: &Book,
     going: &mut Option<PassTools<Y::W, Y::K, Y::T>>,
     slots: &mut Vec<Option<WorkerSlot<Y>>>,
-    clock: &mut C,
-    out: &mut O,
-    err: &mut O,
+    select: &mut Z::P,
+    clock: &mut Z::C,
+    out: &mut Z::O,
+    err: &mut Z::O,
 ) -> PassesEnd
     requires going { SlotHas (λ tools. (tools.seat.lock ≡ shared.now.lock.now)
         × (tools.seat.origin.sparing ≡ None)
@@ -110,12 +113,12 @@ pub(crate) fn run_beside<Y: ThreadKinds, C: Clock, O: Sink, G: Gate, Rt: Threads
         × HasRowIn shared.now.book.now slot.place.share)) slots.old.items }
     ensures going { SlotRan (λ before after. IsLater before.seat after.seat
         × KeepsPassing
-        (setting (rules Y.W.version Y.W.true_row Y.W.told) Y.T.told Y.T.shows Y.K.told) shared.now.site.now.roots.now
-        shared.now.site.now.secs
-        (pass_stage before.seat.seen before.hands.items (C.woke clock.old)
-        (streams O.shows out.old err.old) before.share) result
-        (pass_stage after.seat.seen after.hands.items (C.woke clock.new)
-        (streams O.shows out.new err.new) after.share)
+        (setting (rules Y.W.version Y.W.true_row Y.W.told) Y.T.told Y.T.shows Y.K.told)
+        (scope_of shared.now.site.now.roots.now (Z.P.takes select.old)) shared.now.site.now.secs
+        (pass_stage before.seat.seen before.hands.items (Z.C.woke clock.old)
+        (streams Z.O.shows out.old err.old) before.share) result
+        (pass_stage after.seat.seen after.hands.items (Z.C.woke clock.new)
+        (streams Z.O.shows out.new err.new) after.share)
         × (vec_len after.hands ≡ vec_len before.hands)) going.old going.new }
     ensures ran { AllZip (SlotRan (λ before after. IsLater before.seat after.seat
         × RunsWorker
@@ -143,12 +146,13 @@ pub(crate) fn run_beside<Y: ThreadKinds, C: Clock, O: Sink, G: Gate, Rt: Threads
         ensures { SlotRan (λ before after. IsLater before.seat after.seat
             × KeepsPassing
             (setting (rules Y.W.version Y.W.true_row Y.W.told) Y.T.told Y.T.shows Y.K.told)
-            shared.entry.now.site.now.roots.now shared.entry.now.site.now.secs
-            (pass_stage before.seat.seen before.hands.items (C.woke clock.entry.now)
-            (streams O.shows out.entry.now err.entry.now) before.share) result
-            (pass_stage after.seat.seen after.hands.items (C.woke clock.exit.now)
-            (streams O.shows out.exit.now err.exit.now) after.share)
+            (scope_of shared.entry.now.site.now.roots.now (Z.P.takes select.entry.now))
+            shared.entry.now.site.now.secs
+            (pass_stage before.seat.seen before.hands.items (Z.C.woke clock.entry.now)
+            (streams Z.O.shows out.entry.now err.entry.now) before.share) result
+            (pass_stage after.seat.seen after.hands.items (Z.C.woke clock.exit.now)
+            (streams Z.O.shows out.exit.now err.exit.now) after.share)
             × (vec_len after.hands ≡ vec_len before.hands)) going.entry.now going.exit.now }
-    { lead_passes::<Y, C, O, G, Rt>(shared, book, going, clock, out, err) };
+    { lead_passes::<Y, Z, G, Rt>(shared, book, going, select, clock, out, err) };
     beside(shared.site.rt, slots, &serving, &mut passing)
 }

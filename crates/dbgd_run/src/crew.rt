@@ -13,6 +13,7 @@ use crate::worker::{Worker, WorkerOf};
 use dbgd_commands::Kinds;
 use dbgd_metrics::{Book, Share};
 use lock_crew::{Slot, rooms};
+use path_canon::Matching;
 use std::alloc::{AllocError, Global};
 use std::mem;
 use std::vec::IntoIter;
@@ -29,10 +30,12 @@ pub(crate) struct Workers<'a, X: Kinds> {
     ghost rows: { All (λ worker. HasRowIn book.now worker.share) all.items } by { Prim.hlevel props },
 }
 
-/// What a server works with: a hand or more for its passes, their share, which has a row, and its workers.
+/// What a server works with: a hand or more for its passes, which files these select, their share, which has
+/// a row, and its workers.
 #[derive(Drop)]
 pub(crate) struct Crew<'a, X: Kinds> {
     pub(crate) hands: Vec<X::T>,
+    pub(crate) select: Matching<'a>,
     pub(crate) share: Share,
     pub(crate) workers: Workers<'a, X>,
     ghost hand: { 0 < vec_len hands },
@@ -112,6 +115,7 @@ fn workers_of<T: Drop, D: Drop, L: Drop>(
 /// row of links and with a share of its own. Where there is no memory all are left.
 pub(crate) fn hire<'a, X: Kinds>(
     alloc: Global,
+    select: Matching<'a>,
     book: &'a Book,
     shares: Shares,
     hands: &mut Vec<X::T>,
@@ -128,6 +132,7 @@ pub(crate) fn hire<'a, X: Kinds>(
     ensures doors { IfOk result (λ hired. doors_at hired.0.workers.all.items ≡ doors.old.items) }
     ensures rows { IfOk result (λ hired. rows.old.items ≡ links_at hired.0.workers.all.items
         ++ into_iter_items hired.1.other_rows) }
+    ensures select { IfOk result (λ hired. hired.0.select ≡ select.entry) }
     ensures own { IfOk result (λ hired. hired.0.share ≡ shares.own) }
     ensures shares { IfOk result (λ hired. shares_at hired.0.workers.all.items
         ≡ shares.others.items) }
@@ -165,6 +170,7 @@ pub(crate) fn hire<'a, X: Kinds>(
     Ok((
         Crew {
             hands: first,
+            select,
             share: shares.own,
             workers,
         },

@@ -79,6 +79,7 @@ fn upstream_in(alloc: Global, line: Line<'_>) -> Vec<UpstreamAt>
             secs: _,
             sources: _,
             upstream,
+            patterns: _,
             roots: _,
         } => upstream,
         Line::Ident { .. }

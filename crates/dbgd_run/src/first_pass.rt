@@ -1,6 +1,8 @@
 //! The first pass of a server, and what follows it.
 
 ghost use Rattle.std.specs.Prelude.{◌≡◌, List, Option, None, vec_len};
+ghost use Rattle.path_scope.specs.Scope.{scope_of};
+ghost use Rattle.path_canon.specs.Selected.{is_selected};
 ghost use Rattle.index_lock.specs.Tokens.{IsLater};
 ghost use Rattle.pass_runner.specs.declared.pass_end.PassEnd.{PassEnd};
 ghost use Rattle.tree_trait.specs.declared.clock.Waited.{Waited};
@@ -22,6 +24,7 @@ use dbgd_commands::{Handed, Kinds, Staged};
 use elf_reading::ElfReader;
 use index_lock::{Seat, TurnLock};
 use pass_runner::run_pass;
+use path_canon::Matching;
 use std::sync::Wait;
 use std::thread::Threads;
 
@@ -29,12 +32,14 @@ use std::thread::Threads;
 fn pass_first<'a, 'b, X: Kinds, Rt: Threads + Wait + Sync>(
     site: &SiteOf<'_, X, Rt>,
     lead: PassLeadOf<'a, 'b, X>,
+    select: &mut Matching<'_>,
     out: &mut X::O,
     err: &mut X::O,
 ) -> (PassLeadOf<'a, 'b, X>, LineFate)
     ensures later { IsLater lead.entry.tools.seat result.0.tools.seat }
     ensures made { (end : PassEnd) × ((woke : Option (List Waited)) → MakesRound
-        ⟦<Handed<X> as Staged>⟧.setting site.now.roots.now
+        ⟦<Handed<X> as Staged>⟧.setting
+        (scope_of site.now.roots.now (is_selected select.old))
         (pass_stage lead.entry.tools.seat.seen lead.entry.tools.hands.items woke
         (streams X.O.shows out.old err.old) lead.entry.tools.share)
         (record {
@@ -44,12 +49,13 @@ fn pass_first<'a, 'b, X: Kinds, Rt: Threads + Wait + Sync>(
               result.0.tools.hands.items woke (streams X.O.shows out.new err.new) result.0.tools.share;
         })) }
     ensures hands { vec_len result.0.tools.hands ≡ vec_len lead.entry.tools.hands }
+    ensures select { is_selected select.new ≡ is_selected select.old }
 {
     let PassLead { lock, book, tools } = lead;
     let PassTools { seat, hands, share } = tools;
     let mut share = share;
     let (seat, hands, end) = run_pass(
-        site.rt, site.alloc, lock, seat, hands, site.roots, &ElfReader, site.gate,
+        site.rt, site.alloc, lock, seat, hands, site.roots, select, &ElfReader, site.gate,
     );
     let fate = note_pass(site.alloc, end, book, &mut share, out, err);
     let tools = PassTools { seat, hands, share };
@@ -86,8 +92,8 @@ pub(crate) fn serve_from<X: Kinds, Rt: Threads + Wait + Sync>(
     requires lock { seat.lock ≡ lock.now }
     requires spared { seat.origin.sparing ≡ None }
     ensures later { IsLater seat result.0.seat }
-    ensures serves { ServesFrom (⟦<Handed<X> as ServeSettings>⟧.setting site.now.roots.now
-        site.now.secs site.now.folders.now crew.entry.workers.book.now.rows)
+    ensures serves { ServesFrom (⟦<Handed<X> as ServeSettings>⟧.setting
+        (scope_of site.now.roots.now (is_selected crew.entry.select)) site.now.secs site.now.folders.now crew.entry.workers.book.now.rows)
         (pass_stage seat.seen crew.entry.hands.items (X.C.woke clock.old)
         (streams X.O.shows out.old err.old) crew.entry.share) crew.entry.workers.all.items result.2 result.3
         result.0.seat.seen
@@ -98,14 +104,25 @@ pub(crate) fn serve_from<X: Kinds, Rt: Threads + Wait + Sync>(
 {
     let Crew {
         hands,
+        select,
         share,
         workers,
     } = crew;
     let tools = PassTools { seat, hands, share };
+    let mut select = select;
     let book = workers.book;
     let lead = PassLead { lock, book, tools };
-    let (lead, fate) = pass_first::<X, Rt>(site, lead, out, err);
+    let (lead, fate) = pass_first::<X, Rt>(site, lead, &mut select, out, err);
     let passing = goes_on(site.secs, fate);
-    let (tools, workers, how) = serve_all::<X, Rt>(site, lead, workers, passing, clock, out, err);
+    let (tools, workers, how) = serve_all::<X, Rt>(
+        site,
+        lead,
+        workers,
+        passing,
+        &mut select,
+        clock,
+        out,
+        err,
+    );
     (tools, workers, fate, how)
 }

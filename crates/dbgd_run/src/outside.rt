@@ -6,17 +6,19 @@ ghost use Rattle.row_types.specs.Rules.{rules};
 ghost use Rattle.dbgd_words.specs.Limits.{FitsLimits};
 ghost use Rattle.dbgd_words.specs.Lines.{asked_by};
 ghost use Rattle.dbgd_words.specs.Words.{line_of};
-ghost use Rattle.dbgd_commands.specs.Endings.{EndsWhole, streams};
+ghost use Rattle.dbgd_commands.specs.Endings.{streams};
 ghost use Rattle.dbgd_commands.specs.Stage.{command_stage, rows_shown, setting, stage};
 ghost use Rattle.dbgd_commands.specs.Statuses.{code_of};
 ghost use Rattle.dbgd_commands.specs.declared.status.Status.TheVariants.{OutOfMemory};
 ghost use Rattle.dbgd_run.specs.Needs.{HasEnough, HasHand};
-ghost use Rattle.dbgd_run.specs.Runs.{DoesLine, DoesWords, IsProgramRun, Runs, takes_threads, usage_saying};
+ghost use Rattle.dbgd_run.specs.Runs.{DoesLine, DoesWords, IsProgramRun, Runs, takes_threads};
 
-use crate::serve::{ServeLine, run_serve};
+use crate::refusal::say_usage;
+use crate::selecting::{scan_selected, serve_selected};
+use crate::serve::ServeLine;
 use dbgd_commands::{
-    Handed, Kinds, Of, Outside, Staged, Status, run_ident, run_query, run_scan, run_section,
-    run_sources, run_trial, say, say_error, say_no_memory,
+    Handed, Kinds, Of, Outside, Staged, Status, run_ident, run_query, run_section, run_sources,
+    run_trial, say, say_no_memory,
 };
 use dbgd_words::{Line, read_line};
 use elf_reading::ElfTruth;
@@ -27,20 +29,6 @@ use std::alloc::Global;
 use std::sync::Wait;
 use std::thread::Threads;
 use tree_trait::{Clock, Gate, Tree};
-
-/// Says how the words of each command read.
-fn say_usage<O: Sink>(out: &mut O, err: &mut O) -> Status
-    ensures { EndsWhole usage_saying
-        (streams O.shows out.old err.old) (streams O.shows out.new err.new) result }
-{
-    say_error(
-        "usage: dbgd ident FILE, sources FILE, section FILE NAME, query -d DB ID, ",
-        "scan -d DB DIR, serve -d DB DIR, trial SEED FILES WORKERS",
-        Status::Usage,
-        out,
-        err,
-    )
-}
 
 /// Does what a line of words asks that is neither a scan, of folders or of generated files, nor a
 /// server.
@@ -111,8 +99,17 @@ fn run_line<X: Kinds, Rt: Threads + Wait + Sync>(
         Line::Scan {
             store,
             workers,
+            patterns,
             roots,
-        } => run_scan::<X, Rt>(rt, alloc, store, workers, roots.as_slice(), outside),
+        } => scan_selected::<X, Rt>(
+            rt,
+            alloc,
+            store,
+            workers,
+            patterns,
+            roots.as_slice(),
+            outside,
+        ),
         Line::Serve {
             store,
             workers,
@@ -120,6 +117,7 @@ fn run_line<X: Kinds, Rt: Threads + Wait + Sync>(
             secs,
             sources,
             upstream: _,
+            patterns,
             roots,
         } => {
             let line = ServeLine {
@@ -127,9 +125,10 @@ fn run_line<X: Kinds, Rt: Threads + Wait + Sync>(
                 workers,
                 port,
                 secs,
+                patterns,
                 folders: (roots, sources),
             };
-            run_serve::<X, Rt>(rt, alloc, line, outside)
+            serve_selected::<X, Rt>(rt, alloc, line, outside)
         }
         Line::Trial {
             seed,

@@ -2,6 +2,7 @@
 
 ghost use Rattle.std.specs.Prelude.{◌≡◌, ◌<◌, vec_len, None, IsSome};
 ghost use Rattle.row_types.specs.Rules.{rules};
+ghost use Rattle.path_scope.specs.Scope.{scope_of};
 ghost use Rattle.index_lock.specs.Tokens.{IsLater};
 ghost use Rattle.dbgd_commands.specs.Endings.{streams};
 ghost use Rattle.dbgd_commands.specs.Stage.{setting};
@@ -16,6 +17,7 @@ use index_keeper::Keeper;
 use index_lock::{Seat, TurnLock};
 use index_state::State;
 use pass_runner::{PassEnd, run_pass};
+use path_canon::Selection;
 use row_types::{CanonPath, Truth};
 use std::alloc::Global;
 use std::sync::Wait;
@@ -79,7 +81,7 @@ pub fn note_pass<O: Sink>(
     fate
 }
 
-/// Makes a pass over the roots with an index that others share after each wait for so many seconds
+/// Makes a pass over the roots, by the files that are selected, with an index that others share after each wait for so many seconds
 /// that the clock answers with Again, until it says Stop. The hands are those of `run_pass`. The line
 /// of each pass is that of a scan: a whole pass has it on `out`, any other on `err`, with the reason;
 /// and a whole pass is counted with its rows in the share, whatever comes of its line. A line that
@@ -89,6 +91,7 @@ pub fn keep_passing<
     W: Truth + Send + Sync,
     K: Keeper<W>,
     T: Tree<W>,
+    P: Selection,
     R: Reader<W> + Sync,
     C: Clock,
     O: Sink,
@@ -101,6 +104,7 @@ pub fn keep_passing<
     seat: Seat<State<W, K>>,
     hands: Vec<T>,
     roots: &[CanonPath],
+    select: &mut P,
     reader: &R,
     clock: &mut C,
     secs: u64,
@@ -117,13 +121,15 @@ pub fn keep_passing<
     requires row { IsSome share.old.row }
     ensures later { IsLater seat result.0 }
     ensures passes { KeepsPassing
-        (setting (rules W.version W.true_row W.told) T.told T.shows K.told) roots.now secs
+        (setting (rules W.version W.true_row W.told) T.told T.shows K.told)
+        (scope_of roots.now (P.takes select.old)) secs
         (pass_stage seat.seen hands.items (C.woke clock.old)
         (streams O.shows out.old err.old) share.old) result.2
         (pass_stage result.0.seen result.1.items (C.woke clock.new)
         (streams O.shows out.new err.new) share.new) }
     ensures count { vec_len result.1 ≡ vec_len hands }
     ensures same { (share.new.book ≡ share.old.book) × (share.new.row ≡ share.old.row) }
+    ensures takes { P.takes select.new ≡ P.takes select.old }
 {
     let mut seat = seat;
     let mut hands = hands;
@@ -133,7 +139,7 @@ pub fn keep_passing<
             Wake::Stop => return (seat, hands, stopped_by(failed)),
             Wake::Again => {}
         }
-        let (next, back, end) = run_pass(rt, alloc, lock, seat, hands, roots, reader, gate);
+        let (next, back, end) = run_pass(rt, alloc, lock, seat, hands, roots, select, reader, gate);
         seat = next;
         hands = back;
         match note_pass(alloc, end, book, share, out, err) {

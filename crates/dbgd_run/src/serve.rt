@@ -3,6 +3,8 @@
 ghost use Rattle.std.specs.Prelude.{◌≡◌, ◌+◌, ◌*◌, ◌≤◌, ◌++◌, List, All, IfOk, OnErr, length, vec_len};
 ghost use Rattle.federation.specs.Server.{ServerFacts};
 ghost use Rattle.dbgd_words.specs.Limits.{IsServeFit};
+ghost use Rattle.dbgd_words.specs.Patterns.{pattern_texts};
+ghost use Rattle.dbgd_run.specs.Selecting.{selection_of};
 ghost use Rattle.dbgd_run.specs.Serve.{RunsServe, serve_words};
 
 use crate::crew::{dismiss, hire};
@@ -11,6 +13,8 @@ use crate::serving::serve_store;
 use crate::shares::new_shares;
 use crate::site::Site;
 use dbgd_commands::{Handed, Kinds, Staged, Status, say_no_memory};
+use dbgd_words::Patterns;
+use path_canon::Select;
 use row_types::CanonPath;
 use std::alloc::{AllocError, Global};
 use std::sync::Wait;
@@ -23,6 +27,7 @@ pub(crate) struct ServeLine<'a> {
     pub(crate) workers: u64,
     pub(crate) port: u64,
     pub(crate) secs: u64,
+    pub(crate) patterns: Patterns<'a>,
     /// Those that are scanned, and those for sources alone.
     pub(crate) folders: (Vec<CanonPath>, Vec<CanonPath>),
 }
@@ -36,23 +41,25 @@ fn joined(both: (Vec<CanonPath>, Vec<CanonPath>)) -> Result<Vec<CanonPath>, Allo
     Ok(folders)
 }
 
-/// Makes and hires what a server wants, serves, says how that ended, and dismisses all, unless there is no
+/// Makes and hires what a server wants, serves by the files that are selected, says how that ended, and dismisses all, unless there is no
 /// memory for that.
 fn serve_line<X: Kinds, Rt: Threads + Wait + Sync>(
     rt: &Rt,
     alloc: Global,
     line: ServeLine<'_>,
+    select: &Select,
     outside: &mut Handed<X>,
 ) -> Result<Status, AllocError>
     requires hands { line.workers * 2 + 2 ≤ vec_len outside.old.hands }
     requires doors { vec_len outside.old.doors ≡ line.workers }
     requires links { line.workers ≤ vec_len outside.old.links }
     requires fits { IsServeFit line.workers line.port line.secs }
+    requires select { select.now ≡ selection_of (pattern_texts line.patterns) }
     ensures runs { IfOk result (λ status. (upstream : List ServerFacts)
         → All (λ row. length row.items ≡ length upstream) outside.old.links.items → RunsServe
         ⟦<Handed<X> as Staged>⟧.setting
         (serve_words line.entry.store.now line.entry.workers line.entry.port line.entry.secs line.entry.folders.1.items
-        upstream line.entry.folders.0.items)
+        upstream (pattern_texts line.entry.patterns) line.entry.folders.0.items)
         (⟦<Handed<X> as Staged>⟧.stage outside.old)
         (⟦<Handed<X> as Staged>⟧.stage outside.new) status) }
     ensures err { OnErr result (outside.new ≡ outside.old) }
@@ -65,8 +72,10 @@ fn serve_line<X: Kinds, Rt: Threads + Wait + Sync>(
     let folders = joined(line.folders)?;
     let folders = folders.as_slice();
     let (book, shares) = new_shares(rt, alloc, line.workers)?;
+    let matching = (&*select).matching(alloc)?;
     let (crew, rest) = hire::<X>(
         alloc,
+        matching,
         &book,
         shares,
         &mut outside.hands,
@@ -100,24 +109,26 @@ pub(crate) fn run_serve<X: Kinds, Rt: Threads + Wait + Sync>(
     rt: &Rt,
     alloc: Global,
     line: ServeLine<'_>,
+    select: &Select,
     outside: &mut Handed<X>,
 ) -> Status
     requires hands { line.workers * 2 + 2 ≤ vec_len outside.old.hands }
     requires doors { vec_len outside.old.doors ≡ line.workers }
     requires links { line.workers ≤ vec_len outside.old.links }
     requires fits { IsServeFit line.workers line.port line.secs }
+    requires select { select.now ≡ selection_of (pattern_texts line.patterns) }
     ensures runs { (upstream : List ServerFacts)
         → All (λ row. length row.items ≡ length upstream) outside.old.links.items → RunsServe
         ⟦<Handed<X> as Staged>⟧.setting
         (serve_words line.entry.store.now line.entry.workers line.entry.port line.entry.secs line.entry.folders.1.items
-        upstream line.entry.folders.0.items)
+        upstream (pattern_texts line.entry.patterns) line.entry.folders.0.items)
         (⟦<Handed<X> as Staged>⟧.stage outside.old)
         (⟦<Handed<X> as Staged>⟧.stage outside.new) result }
     ensures count { vec_len outside.new.hands ≡ vec_len outside.old.hands }
     ensures doors { vec_len outside.new.doors ≡ vec_len outside.old.doors }
     ensures rows { vec_len outside.new.links ≡ vec_len outside.old.links }
 {
-    match serve_line::<X, Rt>(rt, alloc, line, outside) {
+    match serve_line::<X, Rt>(rt, alloc, line, select, outside) {
         Ok(status) => status,
         Err(_) => say_no_memory(&mut outside.out, &mut outside.err),
     }

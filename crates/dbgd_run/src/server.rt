@@ -3,6 +3,8 @@
 ghost use Rattle.std.specs.Prelude.{◌≡◌, vec_len};
 ghost use Rattle.std.specs.List.{AllZip};
 ghost use mathlib.Core.List.{IsPrefix};
+ghost use Rattle.path_scope.specs.Scope.{scope_of};
+ghost use Rattle.path_canon.specs.Selected.{is_selected};
 ghost use Rattle.index_lock.specs.Tokens.{IsLater};
 ghost use Rattle.dbgd_commands.specs.Endings.{streams};
 ghost use Rattle.dbgd_run.specs.Rounds.{KeepsPassing, pass_stage};
@@ -15,10 +17,11 @@ use crate::door_crew::run_doors;
 use crate::passes_end::PassesEnd;
 use crate::settings::ServeSettings;
 use crate::site::SiteOf;
-use crate::threads::{PassLead, PassLeadOf, PassTools, PassToolsOf, SentOf, ThreadSite};
+use crate::threads::{PassLead, PassLeadOf, PassTools, PassToolsOf, PassingOf, SentOf, ThreadSite};
 use crate::worker::WorkerOf;
 use dbgd_commands::{Handed, Kinds, Staged};
 use lock_crew::{seats_in, seats_out};
+use path_canon::Matching;
 use std::sync::Wait;
 use std::thread::Threads;
 
@@ -44,7 +47,8 @@ fn serve_alone<X: Kinds, Rt: Threads + Wait + Sync>(
     let shared = ThreadSite { site, lock, book };
     run_doors::<SentOf<X>, X::G, Rt>(&shared, &mut slots);
     let (seat, all) = seats_in(lock, seat, slots, back);
-    (PassTools { seat, hands, share }, all)
+    let tools = PassTools { seat, hands, share };
+    (tools, all)
 }
 
 /// Has the doors of the workers served while the passes go on, and makes one token of all.
@@ -52,6 +56,7 @@ fn serve_beside<X: Kinds, Rt: Threads + Wait + Sync>(
     site: &SiteOf<'_, X, Rt>,
     lead: PassLeadOf<'_, '_, X>,
     workers: Workers<'_, X>,
+    select: &mut Matching<'_>,
     clock: &mut X::C,
     out: &mut X::O,
     err: &mut X::O,
@@ -61,7 +66,8 @@ fn serve_beside<X: Kinds, Rt: Threads + Wait + Sync>(
         workers.entry.book.now.rows)
         X.D.shows X.L.shows lead.entry.tools.seat.seen result.0.seat.seen) workers.entry.all.items result.1.items }
     ensures passes { (log : _) × IsPrefix log result.0.seat.seen × KeepsPassing
-        ⟦<Handed<X> as Staged>⟧.setting site.now.roots.now site.now.secs
+        ⟦<Handed<X> as Staged>⟧.setting
+        (scope_of site.now.roots.now (is_selected select.old)) site.now.secs
         (pass_stage lead.entry.tools.seat.seen lead.entry.tools.hands.items (X.C.woke clock.old)
         (streams X.O.shows out.old err.old) lead.entry.tools.share) result.2
         (pass_stage log result.0.hands.items (X.C.woke clock.new)
@@ -79,14 +85,15 @@ fn serve_beside<X: Kinds, Rt: Threads + Wait + Sync>(
         book: workers.book,
     };
     let mut going = Some(PassTools { seat, hands, share });
-    let end = run_beside::<SentOf<X>, X::C, X::O, X::G, Rt>(
-        &shared, book, &mut going, &mut slots, clock, out, err,
+    let end = run_beside::<SentOf<X>, PassingOf<'_, X>, X::G, Rt>(
+        &shared, book, &mut going, &mut slots, select, clock, out, err,
     );
     let Some(PassTools { seat, hands, share }) = going else {
         unreachable!()
     };
     let (seat, all) = seats_in(lock, seat, slots, back);
-    (PassTools { seat, hands, share }, all, end)
+    let tools = PassTools { seat, hands, share };
+    (tools, all, end)
 }
 
 /// Has the doors of the workers served, with passes beside them where some are to be made.
@@ -95,6 +102,7 @@ pub(crate) fn serve_all<X: Kinds, Rt: Threads + Wait + Sync>(
     lead: PassLeadOf<'_, '_, X>,
     workers: Workers<'_, X>,
     passing: bool,
+    select: &mut Matching<'_>,
     clock: &mut X::C,
     out: &mut X::O,
     err: &mut X::O,
@@ -103,8 +111,8 @@ pub(crate) fn serve_all<X: Kinds, Rt: Threads + Wait + Sync>(
     ensures doors { AllZip (WorkerServed (⟦<Handed<X> as ServeSettings>⟧.doors site.now.folders.now
         workers.entry.book.now.rows)
         X.D.shows X.L.shows lead.entry.tools.seat.seen result.0.seat.seen) workers.entry.all.items result.1.items }
-    ensures passes { GoesOn ⟦<Handed<X> as Staged>⟧.setting site.now.roots.now
-        site.now.secs passing
+    ensures passes { GoesOn ⟦<Handed<X> as Staged>⟧.setting
+        (scope_of site.now.roots.now (is_selected select.old)) site.now.secs passing
         (pass_stage lead.entry.tools.seat.seen lead.entry.tools.hands.items (X.C.woke clock.old)
         (streams X.O.shows out.old err.old) lead.entry.tools.share) result.2 result.0.seat.seen
         (serve_stage result.0.hands.items (X.C.woke clock.new)
@@ -113,7 +121,7 @@ pub(crate) fn serve_all<X: Kinds, Rt: Threads + Wait + Sync>(
     ensures count { vec_len result.1 ≡ vec_len workers.entry.all }
 {
     if passing {
-        let (tools, all, end) = serve_beside::<X, Rt>(site, lead, workers, clock, out, err);
+        let (tools, all, end) = serve_beside::<X, Rt>(site, lead, workers, select, clock, out, err);
         (tools, all, Some(end))
     } else {
         let (tools, all) = serve_alone::<X, Rt>(site, lead, workers);

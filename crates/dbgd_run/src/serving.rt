@@ -2,6 +2,8 @@
 
 ghost use Rattle.std.specs.Prelude.{◌≡◌, [], None, vec_len};
 ghost use Rattle.std.proofs.Props.{props};
+ghost use Rattle.path_scope.specs.Scope.{scope_of};
+ghost use Rattle.path_canon.specs.Selected.{is_selected};
 ghost use Rattle.index_state.specs.Opening.{CanOpen};
 ghost use Rattle.dbgd_commands.specs.Endings.{streams};
 ghost use Rattle.dbgd_run.specs.Rounds.{pass_stage};
@@ -38,8 +40,8 @@ fn serve_index<X: Kinds, Rt: Threads + Wait + Sync>(
     out: &mut X::O,
     err: &mut X::O,
 ) -> (KeeperOf<X>, Back<X>)
-    ensures serves { ServesIndex (⟦<Handed<X> as ServeSettings>⟧.setting site.now.roots.now site.now.secs
-        site.now.folders.now crew.entry.workers.book.now.rows) X.S.K.shows fresh.state
+    ensures serves { ServesIndex (⟦<Handed<X> as ServeSettings>⟧.setting
+        (scope_of site.now.roots.now (is_selected crew.entry.select)) site.now.secs site.now.folders.now crew.entry.workers.book.now.rows) X.S.K.shows fresh.state
         (pass_stage fresh.state.log crew.entry.hands.items (X.C.woke clock.old)
         (streams X.O.shows out.old err.old) crew.entry.share) crew.entry.workers.all.items result.1.end result.0
         (serve_stage result.1.hands.items (X.C.woke clock.new)
@@ -78,8 +80,8 @@ fn serve_keeper<X: Kinds, Rt: Threads + Wait + Sync>(
     err: &mut X::O,
 ) -> (KeeperOf<X>, Back<X>)
     requires { CanOpen X.S.K.told (X.S.K.shows keeper) }
-    ensures serves { ServesKeeper (⟦<Handed<X> as ServeSettings>⟧.setting site.now.roots.now site.now.secs
-        site.now.folders.now crew.entry.workers.book.now.rows) X.S.K.shows site.now.line.now keeper
+    ensures serves { ServesKeeper (⟦<Handed<X> as ServeSettings>⟧.setting
+        (scope_of site.now.roots.now (is_selected crew.entry.select)) site.now.secs site.now.folders.now crew.entry.workers.book.now.rows) X.S.K.shows site.now.line.now keeper
         (pass_stage [] crew.entry.hands.items (X.C.woke clock.old)
         (streams X.O.shows out.old err.old) crew.entry.share) crew.entry.workers.all.items result.1.end result.0
         (serve_stage result.1.hands.items (X.C.woke clock.new)
@@ -112,8 +114,8 @@ pub(crate) fn serve_store<X: Kinds, Rt: Threads + Wait + Sync>(
     out: &mut X::O,
     err: &mut X::O,
 ) -> Back<X>
-    ensures serves { ServesStore (⟦<Handed<X> as ServeSettings>⟧.setting site.now.roots.now site.now.secs
-        site.now.folders.now crew.entry.workers.book.now.rows) site.now.path.now site.now.line.now
+    ensures serves { ServesStore (⟦<Handed<X> as ServeSettings>⟧.setting
+        (scope_of site.now.roots.now (is_selected crew.entry.select)) site.now.secs site.now.folders.now crew.entry.workers.book.now.rows) site.now.path.now site.now.line.now
         (X.S.shows store.old) (X.S.shows store.new)
         (pass_stage [] crew.entry.hands.items (X.C.woke clock.old)
         (streams X.O.shows out.old err.old) crew.entry.share) crew.entry.workers.all.items result.end

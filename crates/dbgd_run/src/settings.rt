@@ -1,6 +1,7 @@
 //! What stays while a server runs, in one word.
 
 ghost use Rattle.std.specs.Prelude.{ℕ, List};
+ghost use Rattle.path_scope.specs.Scope.{Scope};
 ghost use Rattle.row_types.specs.Rules.{rules};
 ghost use Rattle.conn_server.specs.Stage.{ConnSetting};
 ghost use Rattle.dbgd_commands.specs.Stage.{setting};
@@ -25,9 +26,9 @@ pub trait ServeSettings {
     /// What doors are served with, by the folders of sources and the rows of the counter table.
     ghost doors: { List (List ℕ) → ℕ → ConnSetting Self.Hand };
 
-    /// That, with what a run rests on, the folders that are scanned, the seconds between passes, and
+    /// That, with what a run rests on, the scope of its passes, the seconds between them, and
     /// what a door and a link show.
-    ghost setting: { List (List ℕ) → ℕ → List (List ℕ) → ℕ → ServeSetting Self.Hand Self.Door Self.Link };
+    ghost setting: { Scope → ℕ → List (List ℕ) → ℕ → ServeSetting Self.Hand Self.Door Self.Link };
 }
 
 impl<
@@ -48,8 +49,8 @@ impl<
 
     ghost doors = { doors_setting (setting (rules W.version W.true_row W.told) T.told T.shows S.K.told) };
 
-    ghost setting = { λ roots secs folders rows. serve_setting
-        (setting (rules W.version W.true_row W.told) T.told T.shows S.K.told) roots secs
+    ghost setting = { λ scope secs folders rows. serve_setting
+        (setting (rules W.version W.true_row W.told) T.told T.shows S.K.told) scope secs
         (doors_setting (setting (rules W.version W.true_row W.told) T.told T.shows S.K.told) folders rows)
         D.shows L.shows };
 }

@@ -9,13 +9,14 @@ use dbgd_commands::Kinds;
 use dbgd_metrics::{Book, Share};
 use elf_reading::ElfTruth;
 use federation::Link;
-use http_wire::Door;
+use http_wire::{Door, Sink};
 use index_keeper::{Keeper, Store};
 use index_lock::{Seat, TurnLock};
 use index_state::State;
+use path_canon::{Matching, Selection};
 use row_types::Truth;
 use std::marker::PhantomData;
-use tree_trait::{Gate, Tree};
+use tree_trait::{Clock, Gate, Tree};
 
 /// The keeper of an index, of these kinds.
 pub(crate) type KeeperOf<X> = <<X as Kinds>::S as Store<<X as Kinds>::W>>::K;
@@ -63,6 +64,31 @@ pub(crate) type SentOf<X> = Sent<
     <X as Kinds>::D,
     <X as Kinds>::L,
 >;
+
+/// The kinds of what passes alone take: a selection of files, a clock, and sinks.
+pub(crate) trait PassKinds {
+    /// Which files are selected.
+    type P: Selection;
+    /// The clock between passes.
+    type C: Clock;
+    /// A sink of lines.
+    type O: Sink;
+}
+
+/// The kinds of these.
+#[derive(Clone, Copy)]
+pub(crate) struct Passing<P, C, O>(PhantomData<(P, C, O)>);
+
+impl<P: Selection, C: Clock, O: Sink> PassKinds for Passing<P, C, O> {
+    type P = P;
+
+    type C = C;
+
+    type O = O;
+}
+
+/// Those of a server, of the kinds of what the program is handed.
+pub(crate) type PassingOf<'a, X> = Passing<Matching<'a>, <X as Kinds>::C, <X as Kinds>::O>;
 
 /// What a server is made with, the lock of its index, and the counters.
 #[derive(Drop)]

@@ -12,6 +12,7 @@ use Rattle.row_types.specs.Canon.{canon}
 use Rattle.dbgd_words.specs.Limits.{FitsLimits, IsScanFit, IsServeFit}
 use Rattle.dbgd_words.specs.Numbers.{is_number, is_between, spelled_number}
 use Rattle.dbgd_words.specs.Options.{query_faults, query_rows, scan_faults, scan_rows, serve_faults, serve_rows}
+use Rattle.dbgd_words.specs.Patterns.{PatternTexts, patterns_in}
 use Rattle.dbgd_words.specs.Words.{Line, asks_help, asks_query, asks_scan, asks_trial, spelled_id, ident_line, is_help, is_root, line_of}
 use Rattle.dbgd_words.specs.Words.{asks_serve, number_given, query_said, scan_said, section_line, serve_said, served_by, source_folders, sources_line}
 use Rattle.dbgd_words.specs.Words.{program_line, program_words, servers_in, trial_words, unreadable, upstream_texts}
@@ -96,7 +97,7 @@ scan_fits [] rows =
     by_option _ (option_and_then (spelled_number 1 MOST_WORKERS) (first_of (codes "concurrency") rows)) (λ workers at.
     by_option _ (all_of (codes "DIR") rows) (λ folders _.
     let fit = workers_fit (first_of (codes "concurrency") rows) workers at in
-    by_test (list_all is_root folders) (asks_scan store workers (map canon folders)) unreadable fit tt)))
+    by_test (list_all is_root folders) (asks_scan store workers (patterns_in rows) (map canon folders)) unreadable fit tt)))
 scan_fits (kind ∷ more) rows = by_test (is_help kind) asks_help unreadable tt tt
 
 -- a number of an argument that is read is one of those that may stand there
@@ -105,12 +106,14 @@ argument_fits : (least most : ℕ) (text : Option (List ℕ)) (n : ℕ) → opti
 argument_fits least most None n at = absurd (cc)
 argument_fits least most (Some text) n at = number_fits least most text n at
 
-served_fits : (store : List ℕ) (workers port secs : ℕ) (sources others folders : List (List ℕ))
-    → IsServeFit workers port secs → FitsLimits (served_by store workers port secs sources others folders)
-served_fits store workers port secs sources others folders fit =
+served_fits : (store : List ℕ) (workers port secs : ℕ) (sources others : List (List ℕ)) (patterns : PatternTexts)
+    (folders : List (List ℕ)) → IsServeFit workers port secs
+    → FitsLimits (served_by store workers port secs sources others patterns folders)
+served_fits store workers port secs sources others patterns folders fit =
     by_test (list_all is_root folders) _ unreadable
     (by_test (list_all is_root sources) _ unreadable
-    (by_option (λ upstream. asks_serve store workers port secs (map canon sources) upstream (map canon folders)) (servers_in others)
+    (by_option (λ upstream. asks_serve store workers port secs (map canon sources) upstream patterns (map canon folders))
+    (servers_in others)
     (λ upstream _. fit)) tt) tt
 
 serve_fits : (kinds : Kinds) (rows : List Row) → FitsLimits (serve_said kinds rows)
@@ -124,7 +127,7 @@ serve_fits [] rows =
     let b = argument_fits 1 MOST_PORT (first_of (codes "port") rows) port on in
     let c = argument_fits 0 MOST_SECS (first_of (codes "rescan-time") rows) secs each in
     served_fits store workers port secs (source_folders (first_of (codes "sources") rows))
-    (upstream_texts (first_of (codes "upstream") rows)) folders
+    (upstream_texts (first_of (codes "upstream") rows)) (patterns_in rows) folders
     (record { one = a.0; most = a.1; some = b.0; highest = b.1; longest = c.1 }))))))
 serve_fits (kind ∷ more) rows = by_test (is_help kind) asks_help unreadable tt tt
 

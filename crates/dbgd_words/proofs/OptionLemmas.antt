@@ -11,6 +11,7 @@ use Rattle.clap.specs.declared.error.kind.ErrorKind.{ErrorKind}
 use Rattle.row_types.specs.Canon.{canon}
 use Rattle.dbgd_words.specs.Numbers.{spelled_number}
 use Rattle.dbgd_words.specs.Options.{query_faults, query_rows, scan_faults, scan_rows, serve_faults, serve_rows}
+use Rattle.dbgd_words.specs.Patterns.{PatternTexts, patterns_in}
 use Rattle.dbgd_words.specs.Words.{Line, asks_help, asks_query, asks_scan, has_options, spelled_id, is_help, is_root, line_of}
 use Rattle.dbgd_words.specs.Words.{asks_serve, number_given, query_said, refused_line, scan_said, serve_said, served_by, servers_in, source_folders, unreadable, upstream_texts}
 use Rattle.dbgd_words.specs.declared.scan.TheConstants.{MOST_WORKERS}
@@ -19,8 +20,8 @@ use Rattle.dbgd_words.specs.declared.serve.TheConstants.{MOST_PORT, MOST_SECS}
 -- what words that are read as options may ask
 abbrev pub AsksByOptions : Line → Type 0
 AsksByOptions (asks_query store id) = Unit {0}
-AsksByOptions (asks_scan store workers roots) = Unit {0}
-AsksByOptions (asks_serve store workers port secs sources upstream roots) = Unit {0}
+AsksByOptions (asks_scan store workers patterns roots) = Unit {0}
+AsksByOptions (asks_serve store workers port secs sources upstream patterns roots) = Unit {0}
 AsksByOptions asks_help = Unit {0}
 AsksByOptions unreadable = Unit {0}
 AsksByOptions _ = ⊥
@@ -46,15 +47,16 @@ scan_asks [] rows =
     by_option _ (first_of (codes "database") rows) (λ store.
     by_option _ (option_and_then (spelled_number 1 MOST_WORKERS) (first_of (codes "concurrency") rows)) (λ workers.
     by_option _ (all_of (codes "DIR") rows) (λ folders.
-    by_test (list_all is_root folders) (asks_scan store workers (map canon folders)) unreadable tt tt)))
+    by_test (list_all is_root folders) (asks_scan store workers (patterns_in rows) (map canon folders)) unreadable tt tt)))
 scan_asks (kind ∷ more) rows = refused_asks kind
 
-served_asks : (store : List ℕ) (workers port secs : ℕ) (sources others folders : List (List ℕ))
-    → AsksByOptions (served_by store workers port secs sources others folders)
-served_asks store workers port secs sources others folders =
+served_asks : (store : List ℕ) (workers port secs : ℕ) (sources others : List (List ℕ)) (patterns : PatternTexts)
+    (folders : List (List ℕ)) → AsksByOptions (served_by store workers port secs sources others patterns folders)
+served_asks store workers port secs sources others patterns folders =
     by_test (list_all is_root folders) _ unreadable
     (by_test (list_all is_root sources) _ unreadable
-    (by_option (λ upstream. asks_serve store workers port secs (map canon sources) upstream (map canon folders)) (servers_in others)
+    (by_option (λ upstream. asks_serve store workers port secs (map canon sources) upstream patterns (map canon folders))
+    (servers_in others)
     (λ upstream. tt)) tt) tt
 
 serve_asks : (kinds : Kinds) (rows : List Row) → AsksByOptions (serve_said kinds rows)
@@ -65,7 +67,7 @@ serve_asks [] rows =
     by_option _ (number_given 0 MOST_SECS (codes "rescan-time") rows) (λ secs.
     by_option _ (all_of (codes "DIR") rows) (λ folders.
     served_asks store workers port secs (source_folders (first_of (codes "sources") rows))
-    (upstream_texts (first_of (codes "upstream") rows)) folders)))))
+    (upstream_texts (first_of (codes "upstream") rows)) (patterns_in rows) folders)))))
 serve_asks (kind ∷ more) rows = refused_asks kind
 
 -- they ask nothing else

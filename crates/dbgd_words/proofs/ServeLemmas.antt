@@ -9,6 +9,7 @@ use Rattle.clap.specs.Walk.{rows_of}
 use Rattle.clap.specs.declared.parser.matches.ArgMatches.{ArgMatches}
 use Rattle.federation.specs.Server.{ServerFacts}
 use Rattle.row_types.specs.Canon.{canon}
+use Rattle.dbgd_words.specs.Patterns.{PatternTexts}
 use Rattle.dbgd_words.specs.Words.{Line, asks_serve, is_root, served_by, servers_in, unreadable}
 use Rattle.dbgd_words.proofs.TextLemmas.{each_path, each_root}
 
@@ -20,7 +21,7 @@ has_rows app wanted words (Ok matches) same simple has =
     (subst (λ (a : App). HasMatchesOf a words matches) same has simple).0
 has_rows app wanted words (Err why) same simple has = tt
 
-module _ (file : List ℕ) (w p t : ℕ) (sources others folders : List (Bor (List ℕ))) where
+module _ (file : List ℕ) (w p t : ℕ) (sources others : List (Bor (List ℕ))) (patterns : PatternTexts) (folders : List (Bor (List ℕ))) where
   abbrev Sources : List (List ℕ)
   Sources = map (λ folder. folder.now) sources
 
@@ -33,29 +34,29 @@ module _ (file : List ℕ) (w p t : ℕ) (sources others folders : List (Bor (Li
   -- by the servers that the texts name
   abbrev Asking : Option (List ServerFacts) → Line
   Asking servers =
-      option_map_or (λ upstream. asks_serve file w p t (map canon Sources) upstream (map canon Folders)) servers unreadable
+      option_map_or (λ upstream. asks_serve file w p t (map canon Sources) upstream patterns (map canon Folders)) servers unreadable
 
   abbrev By : Bool → Bool → Line
   By far near = cond far (cond near (Asking (servers_in Others)) unreadable) unreadable
 
   -- a folder that has no path can't be read
-  pub no_folder : list_all (λ folder. is_root folder.now) folders ≡ false → unreadable ≡ served_by file w p t Sources Others Folders
+  pub no_folder : list_all (λ folder. is_root folder.now) folders ≡ false → unreadable ≡ served_by file w p t Sources Others patterns Folders
   no_folder none = sym (ap (λ far. By far (list_all is_root Sources)) (each_root folders ∙ none))
 
   -- nor can one for sources
   pub no_source : list_all (λ folder. is_root folder.now) folders ≡ true → list_all (λ folder. is_root folder.now) sources ≡ false
-      → unreadable ≡ served_by file w p t Sources Others Folders
+      → unreadable ≡ served_by file w p t Sources Others patterns Folders
   no_source all none =
       sym (ap (λ far. By far (list_all is_root Sources)) (each_root folders ∙ all) ∙ ap (By true) (each_root sources ∙ none))
 
   both : list_all (λ folder. is_root folder.now) folders ≡ true → list_all (λ folder. is_root folder.now) sources ≡ true
-      → served_by file w p t Sources Others Folders ≡ Asking (servers_in Others)
+      → served_by file w p t Sources Others patterns Folders ≡ Asking (servers_in Others)
   both all each =
       ap (λ far. By far (list_all is_root Sources)) (each_root folders ∙ all) ∙ ap (By true) (each_root sources ∙ each)
 
   -- nor a text that is no address
   pub no_server : list_all (λ folder. is_root folder.now) folders ≡ true → list_all (λ folder. is_root folder.now) sources ≡ true
-      → None ≡ servers_in Others → unreadable ≡ served_by file w p t Sources Others Folders
+      → None ≡ servers_in Others → unreadable ≡ served_by file w p t Sources Others patterns Folders
   no_server all each none = sym (both all each ∙ ap Asking (sym none))
 
   -- all folders have paths, and each text is an address
@@ -63,8 +64,8 @@ module _ (file : List ℕ) (w p t : ℕ) (sources others folders : List (Bor (Li
       → {upstream : List ServerFacts} → Some upstream ≡ servers_in Others
       → {named paths : List (List ℕ)} → named ≡ map (λ folder. canon folder.now) sources
       → paths ≡ map (λ folder. canon folder.now) folders
-      → asks_serve file w p t named upstream paths ≡ served_by file w p t Sources Others Folders
+      → asks_serve file w p t named upstream patterns paths ≡ served_by file w p t Sources Others patterns Folders
   serves_all all each {upstream} found {named} {paths} named_are paths_are =
-      ap (λ (named : List (List ℕ)). asks_serve file w p t named upstream paths) (named_are ∙ sym (each_path sources))
-      ∙ (ap (asks_serve file w p t (map canon Sources) upstream) (paths_are ∙ sym (each_path folders))
+      ap (λ (named : List (List ℕ)). asks_serve file w p t named upstream patterns paths) (named_are ∙ sym (each_path sources))
+      ∙ (ap (asks_serve file w p t (map canon Sources) upstream patterns) (paths_are ∙ sym (each_path folders))
       ∙ sym (both all each ∙ ap Asking (sym found)))

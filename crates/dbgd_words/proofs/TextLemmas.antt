@@ -20,6 +20,7 @@ use Rattle.row_types.specs.Canon.{canon}
 use Rattle.row_types.specs.BuildId.{IsIdLength, IsIdText}
 use Rattle.row_types.specs.declared.build_id.TheConstants.{SHORTEST_ID, LONGEST_ID}
 use Rattle.dbgd_words.specs.Numbers.{is_number, is_between, spelled_number}
+use Rattle.dbgd_words.specs.Patterns.{PatternTexts}
 use Rattle.dbgd_words.specs.Words.{Line, asks_scan, is_root, of_id_length, scan_asked, unreadable}
 use Rattle.dbgd_words.specs.declared.number.TheConstants.{MOST_DIGITS}
 use Rattle.dbgd_words.specs.declared.scan.TheConstants.{MOST_WORKERS}
@@ -83,26 +84,28 @@ pub each_path : (folders : List (Bor (List ℕ)))
 each_path [] = refl
 each_path (folder ∷ folders) = ap (λ rest. canon folder.now ∷ rest) (each_path folders)
 
-module _ {store number : Option (List ℕ)} {folders : Option (List (List ℕ))} {file digits : List ℕ} {workers : ℕ} (roots : List (Bor (List ℕ)))
+module _ {store number : Option (List ℕ)} {patterns : PatternTexts} {folders : Option (List (List ℕ))} {file digits : List ℕ} {workers : ℕ}
+    {given : PatternTexts} (roots : List (Bor (List ℕ)))
     (has_store : store ≡ Some file) (has_number : number ≡ Some digits) (has_workers : spelled_number 1 MOST_WORKERS digits ≡ Some workers)
+    (has_patterns : patterns ≡ given)
     (has_folders : folders ≡ Some (map (λ root. root.now) roots)) where
   abbrev Texts : List (List ℕ)
   Texts = map (λ root. root.now) roots
 
   abbrev By : Bool → Line
-  By test = cond test (asks_scan file workers (map canon Texts)) unreadable
+  By test = cond test (asks_scan file workers given (map canon Texts)) unreadable
 
-  asked : scan_asked store number folders ≡ By (list_all is_root Texts)
+  asked : scan_asked store number patterns folders ≡ By (list_all is_root Texts)
   asked =
-      (λ i. scan_asked (has_store i) (has_number i) (has_folders i))
-      ∙ ap (λ w. option_map_or (λ n. cond (list_all is_root Texts) (asks_scan file n (map canon Texts)) unreadable) w unreadable) has_workers
+      (λ i. scan_asked (has_store i) (has_number i) (has_patterns i) (has_folders i))
+      ∙ ap (λ w. option_map_or (λ n. cond (list_all is_root Texts) (asks_scan file n given (map canon Texts)) unreadable) w unreadable) has_workers
 
   -- a scan whose folders have no path each can't be read
-  pub asks_nothing : list_all (λ root. is_root root.now) roots ≡ false → unreadable ≡ scan_asked store number folders
+  pub asks_nothing : list_all (λ root. is_root root.now) roots ≡ false → unreadable ≡ scan_asked store number patterns folders
   asks_nothing none = sym (asked ∙ ap By (each_root roots ∙ none))
 
   -- one whose folders have one is asked
   pub asks_all : list_all (λ root. is_root root.now) roots ≡ true → {paths : List (List ℕ)} → paths ≡ map (λ root. canon root.now) roots
-      → asks_scan file workers paths ≡ scan_asked store number folders
+      → asks_scan file workers given paths ≡ scan_asked store number patterns folders
   asks_all each are =
-      ap (asks_scan file workers) (are ∙ sym (each_path roots)) ∙ sym (asked ∙ ap By (each_root roots ∙ each))
+      ap (asks_scan file workers given) (are ∙ sym (each_path roots)) ∙ sym (asked ∙ ap By (each_root roots ∙ each))

@@ -27,7 +27,7 @@ pub record IsServeFit (workers port secs : ℕ) : Type 0 where
 
 -- so is it of a line that asks for one of these
 abbrev pub FitsLimits : Line → Type 0
-FitsLimits (asks_scan path workers roots) = IsScanFit workers
-FitsLimits (asks_serve path workers port secs sources upstream roots) = IsServeFit workers port secs
+FitsLimits (asks_scan path workers patterns roots) = IsScanFit workers
+FitsLimits (asks_serve path workers port secs sources upstream patterns roots) = IsServeFit workers port secs
 FitsLimits (asks_trial seed files workers) = IsTrialFit files workers
 FitsLimits _ = Unit {0}

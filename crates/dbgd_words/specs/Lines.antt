@@ -1,6 +1,7 @@
 -- What the line asks that a reader of words gives (this project's rule).
 use Rattle.dbgd_words.specs.Words.{Line as Asked, asks_help, asks_ident, asks_query, asks_scan}
 use Rattle.dbgd_words.specs.Words.{asks_section, asks_serve, asks_sources, asks_trial, unreadable}
+use Rattle.dbgd_words.specs.Patterns.{pattern_texts}
 use Rattle.dbgd_words.specs.declared.line.Line.{Line}
 use Rattle.dbgd_words.specs.declared.line.Line.TheVariants.{Ident, Sources, Section, Query, Scan}
 use Rattle.dbgd_words.specs.declared.line.Line.TheVariants.{Serve, Trial, Program, Help, Usage}
@@ -11,9 +12,9 @@ asked_by (Ident path) = asks_ident path.now
 asked_by (Sources path) = asks_sources path.now
 asked_by (Section path name) = asks_section path.now name.now
 asked_by (Query store id) = asks_query store.now id
-asked_by (Scan store workers roots) = asks_scan store.now workers roots.items
-asked_by (Serve store workers port secs sources upstream roots) =
-    asks_serve store.now workers port secs sources.items upstream.items roots.items
+asked_by (Scan store workers patterns roots) = asks_scan store.now workers (pattern_texts patterns) roots.items
+asked_by (Serve store workers port secs sources upstream patterns roots) =
+    asks_serve store.now workers port secs sources.items upstream.items (pattern_texts patterns) roots.items
 asked_by (Trial seed files workers) = asks_trial seed files workers
 asked_by (Program text) = asks_help
 asked_by (Help text) = asks_help

@@ -44,6 +44,14 @@ sources_rule = long_rule (codes "sources")
 abbrev pub upstream_rule : Rule
 upstream_rule = long_rule (codes "upstream")
 
+-- `-I PATTERN`, `--include PATTERN`
+abbrev pub include_rule : Rule
+include_rule = option_rule 73 (codes "include")
+
+-- `-X PATTERN`, `--exclude PATTERN`
+abbrev pub exclude_rule : Rule
+exclude_rule = option_rule 88 (codes "exclude")
+
 -- `-F`, `--scan-file-dir`: a flag, which may not be repeated
 abbrev pub scan_file_dir_rule : Rule
 scan_file_dir_rule = record (new_rule (codes "scan-file-dir")) {
@@ -68,11 +76,15 @@ command_app name = on_top (λ s. record s { has_version = true }) (new_app name)
 abbrev pub query_app : App
 query_app = with_rule (with_rule (command_app (codes "query")) database_rule) id_rule
 
+-- the command `scan` with the options alone that take a text
+abbrev pub options_app : App
+options_app =
+    with_rule (with_rule (with_rule (with_rule (command_app (codes "scan")) database_rule)
+    concurrency_rule) include_rule) exclude_rule
+
 -- the command `scan`
 abbrev pub scan_app : App
-scan_app =
-    with_rule (with_rule (with_rule (with_rule (command_app (codes "scan")) database_rule)
-    concurrency_rule) scan_file_dir_rule) folders_rule
+scan_app = with_rule (with_rule options_app scan_file_dir_rule) folders_rule
 
 -- the command `serve` with its store and its numbers alone
 abbrev pub numbers_app : App
@@ -80,10 +92,14 @@ numbers_app =
     with_rule (with_rule (with_rule (with_rule (command_app (codes "serve")) database_rule)
     concurrency_rule) port_rule) rescan_time_rule
 
+-- the command `serve` with these and its patterns alone
+abbrev pub patterns_app : App
+patterns_app = with_rule (with_rule numbers_app include_rule) exclude_rule
+
 -- the command `serve`
 abbrev pub serve_app : App
 serve_app =
-    with_rule (with_rule (with_rule (with_rule numbers_app scan_file_dir_rule) sources_rule)
+    with_rule (with_rule (with_rule (with_rule patterns_app scan_file_dir_rule) sources_rule)
     upstream_rule) folders_rule
 
 -- why `clap` refuses a line of `query`; nothing where it reads it

@@ -17,23 +17,25 @@ use Rattle.row_types.specs.Canon.{canon}
 use Rattle.row_types.specs.declared.build_id.TheConstants.{SHORTEST_ID, LONGEST_ID}
 use Rattle.row_types.specs.declared.limits.TheConstants.{PATH_LIMIT}
 use Rattle.dbgd_words.specs.Numbers.{is_between, spelled_number}
+use Rattle.dbgd_words.specs.Patterns.{PatternTexts, patterns_in}
 use Rattle.dbgd_words.specs.Options.{query_faults, query_rows, scan_faults, scan_rows, serve_faults, serve_rows}
 use Rattle.dbgd_words.specs.declared.scan.TheConstants.{MOST_WORKERS}
 use Rattle.dbgd_words.specs.declared.serve.TheConstants.{MOST_PORT, MOST_SECS}
 use Rattle.dbgd_words.specs.declared.trial.TheConstants.{MOST_FILES}
 
 -- what a line asks: the identity of the file at a path, its source paths, the section of a name of it, the rows that a
--- store holds of an id, a scan of folders into a store by so many workers, a server of a store by so many workers on a port,
--- with so many seconds from one scan of its folders to the next, further folders for sources, and other servers that it asks, a
--- scan of so many generated files of a seed, the help or version of the program or of a command, or nothing that can be read
+-- store holds of an id, a scan of folders into a store by so many workers, with patterns, a server of a store by so many workers
+-- on a port, with so many seconds from one scan of its folders to the next, further folders for sources, other servers that it
+-- asks, and patterns for its scans, a scan of so many generated files of a seed, the help or version of the program or of a
+-- command, or nothing that can be read
 pub data Line : Type 0 where
   asks_ident : (path : List ℕ) → Line
   asks_sources : (path : List ℕ) → Line
   asks_section : (path : List ℕ) (name : List ℕ) → Line
   asks_query : (store : List ℕ) (id : List ℕ) → Line
-  asks_scan : (store : List ℕ) (workers : ℕ) (roots : List (List ℕ)) → Line
+  asks_scan : (store : List ℕ) (workers : ℕ) (patterns : PatternTexts) (roots : List (List ℕ)) → Line
   asks_serve : (store : List ℕ) (workers : ℕ) (port : ℕ) (secs : ℕ) (sources : List (List ℕ))
-      (upstream : List ServerFacts) (roots : List (List ℕ)) → Line
+      (upstream : List ServerFacts) (patterns : PatternTexts) (roots : List (List ℕ)) → Line
   asks_trial : (seed : ℕ) (files : ℕ) (workers : ℕ) → Line
   asks_help : Line
   unreadable : Line
@@ -81,12 +83,12 @@ abbrev pub query_asked : Option (List ℕ) → Option (List ℕ) → Line
 query_asked store id =
     option_map_or (λ store. option_map_or (asks_query store) (option_and_then spelled_id id) unreadable) store unreadable
 
--- a store, the text of a number of workers, 1 to 64, and folders
-abbrev pub scan_asked : Option (List ℕ) → Option (List ℕ) → Option (List (List ℕ)) → Line
-scan_asked store number folders = option_map_or (λ store.
+-- a store, the text of a number of workers, 1 to 64, patterns, and folders
+abbrev pub scan_asked : Option (List ℕ) → Option (List ℕ) → PatternTexts → Option (List (List ℕ)) → Line
+scan_asked store number patterns folders = option_map_or (λ store.
     option_map_or (λ workers.
     option_map_or (λ folders.
-    if list_all is_root folders then asks_scan store workers (map canon folders) else unreadable)
+    if list_all is_root folders then asks_scan store workers patterns (map canon folders) else unreadable)
     folders unreadable) (option_and_then (spelled_number 1 MOST_WORKERS) number) unreadable) store unreadable
 
 -- the folders that a text names, with colons between them; none without a text
@@ -110,22 +112,22 @@ number_given least most name rows = option_and_then (spelled_number least most) 
 
 -- a server: each of its folders, and each one for sources, has a canonical path, and each of the texts for other servers is an
 -- address
-abbrev pub served_by : List ℕ → ℕ → ℕ → ℕ → List (List ℕ) → List (List ℕ) → List (List ℕ) → Line
-served_by store workers port secs sources others folders =
+abbrev pub served_by : List ℕ → ℕ → ℕ → ℕ → List (List ℕ) → List (List ℕ) → PatternTexts → List (List ℕ) → Line
+served_by store workers port secs sources others patterns folders =
     if list_all is_root folders
     then (if list_all is_root sources
-    then option_map_or (λ upstream. asks_serve store workers port secs (map canon sources) upstream (map canon folders))
+    then option_map_or (λ upstream. asks_serve store workers port secs (map canon sources) upstream patterns (map canon folders))
     (servers_in others) unreadable
     else unreadable) else unreadable
 
--- a store, a number of workers, a port, a number of seconds and folders, each where it can be read
-abbrev pub serve_asked : Option (List ℕ) → Option ℕ → Option ℕ → Option ℕ → List (List ℕ) → List (List ℕ) → Option (List (List ℕ))
-    → Line
-serve_asked store workers port secs sources others folders = option_map_or (λ store.
+-- a store, a number of workers, a port, a number of seconds, patterns and folders, each where it can be read
+abbrev pub serve_asked : Option (List ℕ) → Option ℕ → Option ℕ → Option ℕ → List (List ℕ) → List (List ℕ) → PatternTexts
+    → Option (List (List ℕ)) → Line
+serve_asked store workers port secs sources others patterns folders = option_map_or (λ store.
     option_map_or (λ workers.
     option_map_or (λ port.
     option_map_or (λ secs.
-    option_map_or (λ folders. served_by store workers port secs sources others folders)
+    option_map_or (λ folders. served_by store workers port secs sources others patterns folders)
     folders unreadable) secs unreadable) port unreadable) workers unreadable) store unreadable
 
 -- a line of `query`, by why it is refused and by the texts of its arguments
@@ -136,7 +138,7 @@ query_said (kind ∷ more) rows = refused_line kind
 -- a line of `scan`, by the same
 abbrev pub scan_said : Kinds → List Row → Line
 scan_said [] rows =
-    scan_asked (first_of (codes "database") rows) (first_of (codes "concurrency") rows)
+    scan_asked (first_of (codes "database") rows) (first_of (codes "concurrency") rows) (patterns_in rows)
     (all_of (codes "DIR") rows)
 scan_said (kind ∷ more) rows = refused_line kind
 
@@ -146,7 +148,7 @@ serve_said [] rows =
     serve_asked (first_of (codes "database") rows) (number_given 1 MOST_WORKERS (codes "concurrency") rows)
     (number_given 1 MOST_PORT (codes "port") rows) (number_given 0 MOST_SECS (codes "rescan-time") rows)
     (source_folders (first_of (codes "sources") rows)) (upstream_texts (first_of (codes "upstream") rows))
-    (all_of (codes "DIR") rows)
+    (patterns_in rows) (all_of (codes "DIR") rows)
 serve_said (kind ∷ more) rows = refused_line kind
 
 -- the line of `query`, its name among the words

@@ -4,9 +4,10 @@ ghost use Rattle.std.specs.Prelude.{◌≡◌, false, map, option_map, IfOk};
 ghost use Rattle.clap.specs.Matches.{found_of};
 ghost use Rattle.clap.specs.Walk.{all_of, first_of, rows_of, rule_of};
 ghost use Rattle.clap.specs.Simple.{app_of};
-ghost use Rattle.dbgd_words.specs.Options.{command_app, concurrency_rule, database_rule};
-ghost use Rattle.dbgd_words.specs.Options.{folders_rule, id_rule, port_rule, rescan_time_rule};
-ghost use Rattle.dbgd_words.specs.Options.{scan_file_dir_rule, sources_rule, upstream_rule};
+ghost use Rattle.dbgd_words.specs.Options.{command_app, concurrency_rule, database_rule, exclude_rule};
+ghost use Rattle.dbgd_words.specs.Options.{folders_rule, id_rule, include_rule, port_rule};
+ghost use Rattle.dbgd_words.specs.Options.{rescan_time_rule, scan_file_dir_rule, sources_rule};
+ghost use Rattle.dbgd_words.specs.Options.{upstream_rule};
 
 use clap::{Arg, ArgAction, ArgMatches, Command};
 use std::alloc::{AllocError, Global};
@@ -85,6 +86,32 @@ pub fn rescan_time<'a>(alloc: Global) -> Arg<'a>
         .value_name("SECS")
         .help("Seconds between scans, 0 to 86400; 0 for one scan alone")
         .default_value("300")
+        .action(ArgAction::Set)
+}
+
+/// `-I PATTERN`.
+pub fn include<'a>(alloc: Global) -> Arg<'a>
+    ensures rule { rule_of result ≡ include_rule }
+    ensures local { result.global ≡ false }
+{
+    Arg::new(alloc, "include")
+        .short('I')
+        .long("include")
+        .value_name("PATTERN")
+        .help("Only files with a match of this expression in their path are scanned")
+        .action(ArgAction::Set)
+}
+
+/// `-X PATTERN`.
+pub fn exclude<'a>(alloc: Global) -> Arg<'a>
+    ensures rule { rule_of result ≡ exclude_rule }
+    ensures local { result.global ≡ false }
+{
+    Arg::new(alloc, "exclude")
+        .short('X')
+        .long("exclude")
+        .value_name("PATTERN")
+        .help("No file with a match of this expression in its path is scanned")
         .action(ArgAction::Set)
 }
 

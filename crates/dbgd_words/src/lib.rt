@@ -5,6 +5,7 @@
 mod arguments;
 mod line;
 mod number;
+mod patterns;
 mod program;
 mod query;
 mod reading;
@@ -16,4 +17,5 @@ mod trial;
 mod upstream;
 
 pub use line::Line;
+pub use patterns::Patterns;
 pub use reading::read_line;

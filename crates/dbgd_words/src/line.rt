@@ -1,5 +1,6 @@
 //! What a command line asks.
 
+use crate::patterns::Patterns;
 use federation::UpstreamAt;
 use row_types::{BuildId, CanonPath};
 
@@ -24,15 +25,18 @@ pub enum Line<'a> {
         store: &'a str,
         id: BuildId,
     },
-    /// A scan of folders into the store of a path, by 1 to 64 workers.
+    /// A scan of folders into the store of a path, by 1 to 64 workers, of the files that the patterns
+    /// select.
     Scan {
         store: &'a str,
         workers: u64,
+        patterns: Patterns<'a>,
         roots: Vec<CanonPath>,
     },
     /// A server of the index in the store of a path: 1 to 64 workers, a port from 1 on, seconds from
     /// one scan of the folders to the next, up to 86,400, folders that sources are served from
-    /// beside those that are scanned, and other servers that are asked for what isn't here, in order.
+    /// beside those that are scanned, other servers that are asked for what isn't here, in order, and
+    /// the patterns that select which files are scanned.
     Serve {
         store: &'a str,
         workers: u64,
@@ -40,6 +44,7 @@ pub enum Line<'a> {
         secs: u64,
         sources: Vec<CanonPath>,
         upstream: Vec<UpstreamAt>,
+        patterns: Patterns<'a>,
         roots: Vec<CanonPath>,
     },
     /// A scan of generated files: the seed of their bytes, how many they are, and by how many

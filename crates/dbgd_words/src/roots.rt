@@ -6,7 +6,7 @@ ghost use Rattle.row_types.specs.Absolute.{is_absolute};
 ghost use Rattle.row_types.specs.Canon.{canon};
 ghost use Rattle.dbgd_words.specs.Words.{is_root};
 
-use path_canon::{PathFault, canonical};
+use path_scope::{PathFault, canonical};
 use row_types::{CanonPath, PATH_LIMIT, SEPARATOR};
 use std::alloc::{AllocError, Global};
 

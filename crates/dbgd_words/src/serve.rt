@@ -7,18 +7,21 @@ ghost use Rattle.clap.specs.Matches.{found_of};
 ghost use Rattle.clap.specs.Simple.{app_of};
 ghost use Rattle.clap.specs.Walk.{all_of, first_of, rows_of};
 ghost use Rattle.dbgd_words.specs.Lines.{asked_by};
-ghost use Rattle.dbgd_words.specs.Options.{numbers_app, serve_app, serve_faults, serve_rows};
+ghost use Rattle.dbgd_words.specs.Options.{numbers_app, patterns_app, serve_app, serve_faults};
+ghost use Rattle.dbgd_words.specs.Options.{serve_rows};
+ghost use Rattle.dbgd_words.specs.Patterns.{pattern_texts, patterns_in};
 ghost use Rattle.dbgd_words.specs.Words.{number_given, serve_asked, serve_line, served_by};
 ghost use Rattle.dbgd_words.specs.Words.{source_folders, upstream_texts};
 ghost use Rattle.dbgd_words.specs.declared.scan.TheConstants.{MOST_WORKERS};
 ghost use Rattle.dbgd_words.specs.declared.serve.TheConstants.{MOST_PORT, MOST_SECS};
 
 use crate::arguments::{
-    command, concurrency, database, folders, port, rescan_time, scan_file_dir, sources, text_of,
-    texts_of, upstream,
+    command, concurrency, database, exclude, folders, include, port, rescan_time, scan_file_dir,
+    sources, text_of, texts_of, upstream,
 };
 use crate::line::Line;
 use crate::number::number_in;
+use crate::patterns::{Patterns, patterns_of};
 use crate::refusal::refused;
 use crate::roots::{are_roots, paths_of};
 use crate::scan::MOST_WORKERS;
@@ -34,12 +37,18 @@ pub const MOST_SECS: u64 = 86_400;
 
 /// What stands below the arguments in the help.
 const AFTER: &str = "\
-Keeps a row for each file under the folders in the store, as dbgd scan does, at its start and again
-after each wait, and answers HTTP requests by what the scans have found: executables, debug files,
+Keeps a row for each selected file under the folders in the store, as dbgd scan does, at its start and
+again after each wait, and answers HTTP requests by what the scans have found: executables, debug files,
 sections and source files by build-id, and its counters at /metrics. Requests that come during the
 first scan wait for its end, later ones for none. A source file is served where a debug file names it
 and it lies under one of the folders or of those of --sources. What isn't found here is asked of the
 servers of --upstream, in order.
+
+A PATTERN is a regular expression, looked for in the whole path of a file: \\.debug$ has a match where
+the path ends so, ^/usr/ where it begins so, and an empty one in each. A file is selected where that of
+-X, if it is there, has no match, and that of -I, if it is there, has one: what both match isn't scanned.
+The row of a file that isn't selected is dropped; source files go by folders alone. A pattern that begins
+with - is written -X=-x or --exclude=-x.
 
 Prints on standard output that it serves, on which port and with how many workers, and then a line of
 counts for each scan; a scan that is cut short says why on standard error, and the next one goes on.
@@ -87,11 +96,20 @@ fn with_numbers<'a>(alloc: Global) -> Result<Command<'a>, AllocError>
     .arg(rescan_time(alloc))
 }
 
+/// The command with these and its patterns alone.
+fn with_patterns<'a>(alloc: Global) -> Result<Command<'a>, AllocError>
+    ensures { IfOk result (λ command. app_of command ≡ patterns_app) }
+{
+    with_numbers(alloc)?
+        .arg(include(alloc))?
+        .arg(exclude(alloc))
+}
+
 /// The command.
 fn serve_command<'a>(alloc: Global) -> Result<Command<'a>, AllocError>
     ensures { IfOk result (λ command. app_of command ≡ serve_app) }
 {
-    with_numbers(alloc)?
+    with_patterns(alloc)?
         .arg(scan_file_dir(alloc))?
         .arg(sources(alloc))?
         .arg(upstream(alloc))?
@@ -149,12 +167,13 @@ fn upstream_of<'a>(alloc: Global, matches: &ArgMatches<'a>) -> Result<Vec<&'a st
     }
 }
 
-/// What is asked of a store with these numbers, further folders for sources, other servers, and
-/// folders.
+/// What is asked of a store with these numbers, patterns, further folders for sources, other servers,
+/// and folders.
 fn with_folders<'a>(
     alloc: Global,
     store: &'a str,
     numbers: Numbers,
+    patterns: Patterns<'a>,
     sources: &[&str],
     others: &[&str],
     folders: &[&str],
@@ -162,7 +181,7 @@ fn with_folders<'a>(
     ensures { IfOk result (λ line. asked_by line
         ≡ served_by store.now numbers.workers numbers.port numbers.secs
         (map (λ folder. folder.now) sources.now) (map (λ text. text.now) others.now)
-        (map (λ folder. folder.now) folders.now)) }
+        (pattern_texts patterns.entry) (map (λ folder. folder.now) folders.now)) }
 {
     if !are_roots(folders) {
         return Ok(Line::Usage);
@@ -186,6 +205,7 @@ fn with_folders<'a>(
             secs,
             sources,
             upstream,
+            patterns,
             roots,
         }),
         None => Ok(Line::Usage),
@@ -201,6 +221,7 @@ fn serve_of<'a>(alloc: Global, matches: &ArgMatches<'a>) -> Result<Line<'a>, All
         (number_given 0 MOST_SECS (codes "rescan-time") (rows_of (found_of matches.now)))
         (source_folders (first_of (codes "sources") (rows_of (found_of matches.now))))
         (upstream_texts (first_of (codes "upstream") (rows_of (found_of matches.now))))
+        (patterns_in (rows_of (found_of matches.now)))
         (all_of (codes "DIR") (rows_of (found_of matches.now)))) }
 {
     let Some(store) = text_of(matches, "database") else {
@@ -229,6 +250,7 @@ fn serve_of<'a>(alloc: Global, matches: &ArgMatches<'a>) -> Result<Line<'a>, All
         alloc,
         store,
         numbers,
+        patterns_of(matches),
         sources.as_slice(),
         others.as_slice(),
         folders,

@@ -1,7 +1,7 @@
 //! What no clause says: that memory suffices, and what the rules give for texts that are known from
 //! elsewhere.
 
-use path_canon::{PathFault, canonical, is_under};
+use path_scope::{PathFault, canonical, is_under};
 use std::alloc::Global;
 use std::process::Abort;
 

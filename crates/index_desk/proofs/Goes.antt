@@ -9,6 +9,7 @@ use Rattle.index_lock.proofs.Prefixes.{prefix_of_same, prefix_trans}
 use Rattle.index_lock.specs.Tokens.{SeatFacts}
 use Rattle.index_rows.specs.Log.{drop_of, put_of}
 use Rattle.index_rows.specs.declared.change.Change.{Change}
+use Rattle.path_scope.specs.Scope.{Scope}
 use Rattle.index_state.specs.Away.{GroomsNext, MissesOut}
 use Rattle.index_state.specs.Invariant.{IndexInvariant}
 use Rattle.index_state.specs.Spared.{Sparing}
@@ -47,11 +48,11 @@ module _ {K : Type 0} {old new : StateFacts K} where
     origin = ap (λ (s : StateFacts K). s.origin) is ∙ origin;
   }
 
-  pub begin_goes : (listing : List NameFacts) (roots : List (List ℕ)) → old.origin.sparing ≡ None → old.origin.spared ≡ []
-      → (answer : Begun) → BeginsOrNot listing roots old answer new → LogGoesOn old new
-  begin_goes listing roots never none (begun.Begun plan) h = stays_as h.after refl (same_origin old.origin never none)
-  begin_goes listing roots never none begun.Broken h = stays_as h.same refl refl
-  begin_goes listing roots never none begun.OutOfMemory h = stays_as h.same refl refl
+  pub begin_goes : (listing : List NameFacts) (scope : Scope) → old.origin.sparing ≡ None → old.origin.spared ≡ []
+      → (answer : Begun) → BeginsOrNot listing scope old answer new → LogGoesOn old new
+  begin_goes listing scope never none (begun.Begun plan) h = stays_as h.after refl (same_origin old.origin never none)
+  begin_goes listing scope never none begun.Broken h = stays_as h.same refl refl
+  begin_goes listing scope never none begun.OutOfMemory h = stays_as h.same refl refl
 
   pub take_goes : (answer : Option NameFacts) → TakesNextName old answer new → LogGoesOn old new
   take_goes answer h = stays_as h.same refl refl

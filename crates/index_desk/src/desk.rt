@@ -1,6 +1,7 @@
 //! The events of an index behind its lock, one in a hold.
 
 ghost use Rattle.std.specs.Prelude.{◌≡◌, ◌+◌, ◌≤◌, IfSome, None};
+ghost use Rattle.path_scope.specs.Scope.{scope_of};
 ghost use Rattle.row_types.specs.Name.{stamp_at};
 ghost use Rattle.index_state.specs.Step.{begins, grooms, judges, misses, publishes, takes};
 ghost use Rattle.index_state.specs.Step.{to_begin, to_groom, to_judge, to_miss, to_publish};
@@ -15,6 +16,7 @@ use crate::held::{
 use index_keeper::Keeper;
 use index_lock::{Seat, TurnLock};
 use index_state::{Begun, GroomTask, Judged, Published, State};
+use path_scope::Selection;
 use row_types::{CanonPath, Name, TrueRow, Truth};
 use scan_queue::{Cause, Listing, Seen};
 use std::alloc::{AllocError, Global};
@@ -31,20 +33,22 @@ pub struct Desk<'a, W: Truth, K: Keeper<W>> {
 
 impl<'a, W: Truth, K: Keeper<W>> Desk<'a, W, K> {
     /// Begins a pass over what a walk of the roots listed. No name may have been spared.
-    pub fn begin<Rt: Wait>(
+    pub fn begin<Rt: Wait, P: Selection>(
         self,
         rt: &Rt,
         alloc: Global,
         listing: Listing,
         roots: Vec<CanonPath>,
+        select: &mut P,
     ) -> (Desk<'a, W, K>, Begun)
         requires { self.seat.origin.sparing ≡ None }
-        ensures { HoldsEvent W.true_row K.told K.shows (begins listing roots.items)
+        ensures holds { HoldsEvent W.true_row K.told K.shows (begins listing (scope_of roots.items (P.takes select.old)))
             (to_begin result.1) self.entry.seat result.0.seat }
+        ensures same { P.takes select.new ≡ P.takes select.old }
     {
         let Desk { lock, seat } = self;
         let mut held = lock.enter(rt, seat);
-        let begun = begin_held(alloc, held.value_mut(), listing, roots);
+        let begun = begin_held(alloc, held.value_mut(), listing, roots, select);
         let seat = lock.leave(held);
         (Desk { lock, seat }, begun)
     }

@@ -1,6 +1,7 @@
 //! One event of an index that is held.
 
 ghost use Rattle.std.specs.Prelude.{◌≡◌, IfSome, None};
+ghost use Rattle.path_scope.specs.Scope.{scope_of};
 ghost use Rattle.row_types.specs.Name.{stamp_at};
 ghost use Rattle.index_state.specs.Invariant.{IndexInvariant};
 ghost use Rattle.index_state.specs.Step.{IndexStep, begins, grooms, judges, misses, publishes};
@@ -10,26 +11,29 @@ ghost use Rattle.index_desk.specs.Holds.{LogGoesOn, RetriesAll};
 
 use index_keeper::Keeper;
 use index_state::{Begun, GroomTask, Judged, Published, State, show_index};
+use path_scope::Selection;
 use row_types::{CanonPath, Name, TrueRow, Truth};
 use scan_queue::{Cause, Listing, Seen};
 use std::alloc::{AllocError, Global};
 
 /// Begins a pass. No name may have been spared.
-pub(crate) fn begin_held<W: Truth, K: Keeper<W>>(
+pub(crate) fn begin_held<W: Truth, K: Keeper<W>, P: Selection>(
     alloc: Global,
     state: &mut State<W, K>,
     listing: Listing,
     roots: Vec<CanonPath>,
+    select: &mut P,
 ) -> Begun
     requires { state.old.origin.sparing ≡ None }
-    ensures step { IndexStep K.told K.shows state.old (begins listing roots.items)
+    ensures step { IndexStep K.told K.shows state.old (begins listing (scope_of roots.items (P.takes select.old)))
         (to_begin result) state.new }
     ensures goes_on { LogGoesOn state.old state.new }
     ensures holds { IndexInvariant W.true_row K.told K.shows state.new }
+    ensures same { P.takes select.new ≡ P.takes select.old }
 {
     // For its clause: the index invariant, before the pass begins.
     let _rows = state.rows();
-    let begun = state.begin(alloc, listing, roots);
+    let begun = state.begin(alloc, listing, roots, select);
     // For its clause: the index invariant.
     show_index(state);
     begun

@@ -11,5 +11,5 @@ mod work_end;
 
 pub use desk::Desk;
 pub use ground::Ground;
-pub use looks::{act_once, look_once};
+pub use looks::look_once;
 pub use work_end::WorkEnd;

@@ -29,6 +29,8 @@ use Rattle.index_state.specs.Kept.{IsDoubted, tables_of_rows}
 use Rattle.index_state.specs.Opening.{current, is_current}
 use Rattle.index_events.specs.Puts.{HasPut, LeavePath, MayChange, PutsLast}
 use Rattle.index_state.specs.State.{StateFacts}
+use Rattle.path_canon.specs.Scope.{Scope, scope_of}
+use Rattle.path_canon.specs.Selected.{is_selected}
 use Rattle.index_state.specs.Step.{BeginsOrNot, Judges, Publishes, Stores}
 use Rattle.index_state.specs.declared.answer.Begun.{Begun}
 use Rattle.index_state.specs.declared.answer.Begun.TheVariants.{Begun as BegunBy, Broken as BegunBroken, OutOfMemory as BegunNoMemory}
@@ -130,10 +132,10 @@ module _ {K : Type 0} (path : List ℕ) (old new : StateFacts K) where
   leaves_sound bytes sound = record { bytes = bytes; doubt = λ h. absurd (true≢false (sym h.broken ∙ sound)) }
 
 module _ (W : Type 0) {K : Type 0} {true_row : RowFacts → Type 0} {told : Bool} {shows : K → ShownKeeper} (path : List ℕ) {old new : StateFacts K} (h : IndexInvariant true_row told shows old) where
-  begin_leaves : (listing : List NameFacts) (roots : List (List ℕ)) (begun : Begun) → BeginsOrNot listing roots old begun new → LeavesAt path old new
-  begin_leaves listing roots (BegunBy plan) step = leaves_by path old new _ step.after refl refl refl
-  begin_leaves listing roots BegunBroken step = leaves_by path old new old step.same refl refl refl
-  begin_leaves listing roots BegunNoMemory step = leaves_by path old new old step.same refl refl refl
+  begin_leaves : (listing : List NameFacts) (scope : Scope) (begun : Begun) → BeginsOrNot listing scope old begun new → LeavesAt path old new
+  begin_leaves listing scope (BegunBy plan) step = leaves_by path old new _ step.after refl refl refl
+  begin_leaves listing scope BegunBroken step = leaves_by path old new old step.same refl refl refl
+  begin_leaves listing scope BegunNoMemory step = leaves_by path old new old step.same refl refl refl
 
   stored_leaves : {row : RowFacts} → Stores told shows row old new → (row.name.path ≡ path → ⊥) → LeavesAt path old new
   stored_leaves {row} stored apart =
@@ -172,7 +174,7 @@ module _ (W : Type 0) {K : Type 0} {true_row : RowFacts → Type 0} {told : Bool
 
   -- an event that changes another path leaves this one
   event_leaves : (event : Event W) (answer : EventAnswer) → Happens told shows old event answer new → (MayChange path event answer → ⊥) → LeavesAt path old new
-  event_leaves (Begin listing roots) (BeginSaid begun) step apart = begin_leaves listing roots.items begun step
+  event_leaves (Begin listing roots select) (BeginSaid begun) step apart = begin_leaves listing (scope_of roots.items (is_selected select)) begun step
   event_leaves Take (TakeSaid name) step apart = leaves_by path old new _ step.same refl refl refl
   event_leaves (Publish row) (PublishSaid said) step apart = publish_leaves row said step apart
   event_leaves GroomTake (GroomSaid task) step apart = leaves_by path old new _ step.same refl refl refl

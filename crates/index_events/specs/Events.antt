@@ -8,6 +8,8 @@ use Rattle.index_keeper.specs.declared.answer.StoreAnswer.{StoreAnswer}
 use Rattle.index_keeper.specs.declared.answer.StoreAnswer.TheVariants.{Opened as StoreOpened, Failed as StoreFailed, OutOfMemory as StoreNoMemory}
 use Rattle.index_state.specs.Invariant.{IndexInvariant}
 use Rattle.index_state.specs.Opening.{CountsFault, Opens, RefusesOpening}
+use Rattle.path_canon.specs.Scope.{scope_of}
+use Rattle.path_canon.specs.Selected.{is_selected}
 use Rattle.index_events.specs.Puts.{PutsLast}
 use Rattle.index_state.specs.State.{StateFacts}
 use Rattle.index_state.specs.Step.{IndexStep, begins, grooms, judges, looks, misses, publishes, retries, takes, to_begin, to_groom, to_judge, to_look, to_miss, to_publish, to_retry, to_take}
@@ -30,7 +32,7 @@ pub record StoredIndex (K : Type 0) : Type 0 where
 
 -- the event and its answer are a case of the index step
 abbrev pub Happens : {W K : Type 0} → Bool → (K → ShownKeeper) → StateFacts K → Event W → EventAnswer → StateFacts K → Type 0
-Happens told shows old (Begin listing roots) (BeginSaid begun) new = IndexStep told shows old (begins listing roots.items) (to_begin begun) new
+Happens told shows old (Begin listing roots select) (BeginSaid begun) new = IndexStep told shows old (begins listing (scope_of roots.items (is_selected select))) (to_begin begun) new
 Happens told shows old Take (TakeSaid name) new = IndexStep told shows old takes (to_take name) new
 Happens told shows old (Publish row) (PublishSaid said) new = IndexStep told shows old (publishes row) (to_publish said) new
 Happens told shows old GroomTake (GroomSaid task) new = IndexStep told shows old grooms (to_groom task) new
@@ -60,7 +62,7 @@ pub record EventWantsMemory {K : Type 0} (told : Bool) (shows : K → ShownKeepe
 -- the event wants memory: its call says so, which is a case of the index step, or the copies of names that are to be
 -- tried again, or of the paths that were found, could not be made. No other event does: a reopening is refused
 abbrev pub MeetsWant : {W K : Type 0} → Bool → (K → ShownKeeper) → StateFacts K → Event W → StateFacts K → Type 0
-MeetsWant told shows old (Begin listing roots) new = IndexStep told shows old (begins listing roots.items) (to_begin BegunNoMemory) new
+MeetsWant told shows old (Begin listing roots select) new = IndexStep told shows old (begins listing (scope_of roots.items (is_selected select))) (to_begin BegunNoMemory) new
 MeetsWant told shows old (Publish row) new = IndexStep told shows old (publishes row) (to_publish PublishedNoMemory) new
 MeetsWant told shows old (Judge name seen) new = IndexStep told shows old (judges name seen) (to_judge JudgedNoMemory) new
 MeetsWant told shows old Retry new = new ≡ old

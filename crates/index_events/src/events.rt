@@ -2,14 +2,15 @@
 
 use index_keeper::Keeper;
 use index_state::{Begun, GroomTask, Judged, OpenFault, Published, State};
+use path_canon::Select;
 use row_types::{BuildId, CanonPath, Kind, Name, TrueRow, Truth};
 use scan_queue::{Cause, Listing, Seen};
 
 /// What can happen to an index.
 #[derive(Drop)]
 pub enum Event<W: Truth> {
-    /// A pass begins over what a walk of the roots listed.
-    Begin(Listing, Vec<CanonPath>),
+    /// A pass begins over what a walk of the roots listed, where these paths are selected.
+    Begin(Listing, Vec<CanonPath>, Select),
     /// The first name that is to be read goes out.
     Take,
     /// A row is published.

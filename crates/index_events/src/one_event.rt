@@ -7,6 +7,7 @@ ghost use Rattle.index_events.specs.declared.events.Event.{Event};
 use crate::events::{Event, EventAnswer};
 use index_keeper::Keeper;
 use index_state::{Begun, Judged, Published, State};
+use path_canon::Select;
 use row_types::{BuildId, CanonPath, Kind, Name, TrueRow, Truth};
 use scan_queue::{Listing, Seen};
 use std::alloc::{AllocError, Global};
@@ -23,7 +24,7 @@ pub(crate) fn call_event<W: Truth, K: Keeper<W>>(
         (λ _. WantsFor K.told K.shows state.old event state.new) }
 {
     match event {
-        Event::Begin(listing, roots) => begin(alloc, state, listing, roots),
+        Event::Begin(listing, roots, select) => begin(alloc, state, listing, roots, select),
         Event::Take => Ok(EventAnswer::Take(state.take())),
         Event::Publish(row) => publish(alloc, state, row),
         Event::GroomTake => Ok(EventAnswer::GroomTake(state.groom_take())),
@@ -41,13 +42,15 @@ fn begin<W: Truth, K: Keeper<W>>(
     state: &mut State<W, K>,
     listing: Listing,
     roots: Vec<CanonPath>,
+    select: Select,
 ) -> Result<EventAnswer, AllocError>
     ensures { MatchResult result
-        (λ answer. AnswersEvent {W = W} K.told K.shows state.old (Event.Begin listing roots) answer
+        (λ answer. AnswersEvent {W = W} K.told K.shows state.old (Event.Begin listing roots select) answer
         state.new)
-        (λ _. WantsFor {W = W} K.told K.shows state.old (Event.Begin listing roots) state.new) }
+        (λ _. WantsFor {W = W} K.told K.shows state.old (Event.Begin listing roots select) state.new) }
 {
-    match state.begin(alloc, listing, roots) {
+    let mut select = select;
+    match state.begin(alloc, listing, roots, &mut select) {
         Begun::OutOfMemory => Err(AllocError),
         begun => Ok(EventAnswer::Begin(begun)),
     }

@@ -25,20 +25,19 @@ pub record Origin : Type 0 where
 abbrev pub unspared : Origin → Origin
 unspared origin = record origin { sparing = None; spared = [] }
 
--- the rows in path order, the changes that made their names, the keeper, the pass and its roots, whether the index
--- is broken, and its origin
+-- the rows in path order, the changes that made their names, the keeper, the pass, whether the index is broken, and its
+-- origin
 pub record StateFacts (K : Type 0) : Type 0 where
   pub rows : List RowFacts
   pub log : List Change
   pub keeper : K
   pub pass : Option PassFacts
-  pub roots : List (List ℕ)
   pub broken : Bool
   pub origin : Origin
 
 -- the pass in which nothing is listed and no name stands
 abbrev pub no_pass : PassFacts
-no_pass = record { listing = []; todo = []; out = []; groom = []; missed = []; filled = true }
+no_pass = record { listing = []; marked = []; todo = []; out = []; groom = []; missed = []; filled = true }
 
 -- the pass, if one was begun, else the one in which nothing is listed
 abbrev pub pass_or_none : Option PassFacts → PassFacts
@@ -62,7 +61,6 @@ state_of shows s = record {
   log = s.rows.log;
   keeper = s.keeper;
   pass = s.pass;
-  roots = s.roots.items;
   broken = s.broken;
   origin = record {
     epoch = s.epoch;

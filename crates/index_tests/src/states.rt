@@ -2,6 +2,7 @@
 
 mod events;
 mod helpers;
+mod marks;
 mod opens;
 mod orders;
 mod told;

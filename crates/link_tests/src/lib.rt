@@ -1,6 +1,6 @@
-//! The tests of the crates that ask other servers, and of the words that name these: responses as they
-//! come, questions over a dial in memory, and command lines. They use what is public alone, and no code
-//! stands on them.
+//! The tests of the crates that ask other servers, of the words that name these, and of patterns of
+//! paths: responses as they come, questions over a dial in memory, command lines, and what is selected.
+//! They use what is public alone, and no code stands on them.
 #![tactic(auto)]
 
 #[cfg(test)]
@@ -9,6 +9,8 @@ mod addresses;
 mod asked;
 #[cfg(test)]
 mod order;
+#[cfg(test)]
+mod patterns;
 #[cfg(test)]
 mod responses;
 #[cfg(test)]

@@ -8,8 +8,10 @@ use crate::words::helps::{
     PROGRAM_HELP, PROGRAM_HELPS, QUERY_HELP, QUERY_HELPS, SCAN_HELP, SCAN_HELPS, SERVE_HELP,
     SERVE_HELPS, VERSIONS,
 };
-use crate::words::lines::{FILES, OPTIONS, QUERIES, SCANS, SERVE_OPTIONS, SERVERS, TRIALS};
-use dbgd_words::{Line, read_line};
+use crate::words::lines::{
+    FILES, OPTIONS, PATTERNS, QUERIES, SCANS, SERVE_OPTIONS, SERVERS, TRIALS,
+};
+use dbgd_words::{Line, Patterns, read_line};
 use federation::UpstreamAt;
 use row_types::{BuildId, CanonPath};
 use std::alloc::Global;
@@ -31,19 +33,32 @@ fn said_of_query(rt: &impl Abort, alloc: Global, store: &str, id: &BuildId) -> S
     format!(in alloc; "query {store} {id}").expect(rt, "memory")
 }
 
-/// What a scan says.
+/// Adds a pattern to a text, behind its mark.
+fn push_pattern(rt: &impl Abort, text: &mut String, mark: &str, pattern: Option<&str>) {
+    if let Some(pattern) = pattern {
+        text.push_str(mark).expect(rt, "memory");
+        text.push_str(pattern).expect(rt, "memory");
+    }
+}
+
+/// Adds both patterns to a text.
+fn push_patterns(rt: &impl Abort, text: &mut String, patterns: Patterns<'_>) {
+    push_pattern(rt, text, " -I", patterns.include);
+    push_pattern(rt, text, " -X", patterns.exclude);
+}
+
+/// What a scan says: its number, its folders and its patterns.
 fn said_of_scan(
     rt: &impl Abort,
     alloc: Global,
     store: &str,
     workers: u64,
+    patterns: Patterns<'_>,
     roots: &[CanonPath],
 ) -> String {
     let mut text = format!(in alloc; "scan {store} {workers}").expect(rt, "memory");
-    for root in roots {
-        text.push_str(" ").expect(rt, "memory");
-        text.push_str(root.text()).expect(rt, "memory");
-    }
+    push_folders(rt, &mut text, " ", roots);
+    push_patterns(rt, &mut text, patterns);
     text
 }
 
@@ -70,8 +85,8 @@ fn push_servers(
     }
 }
 
-/// What a server says: its numbers, its folders, those for sources behind a colon each, and the servers
-/// that it asks, behind a greater-than sign each.
+/// What a server says: its numbers, its folders, those for sources behind a colon each, the servers that
+/// it asks, behind a greater-than sign each, and its patterns.
 fn said_of_server(
     rt: &impl Abort,
     alloc: Global,
@@ -79,6 +94,7 @@ fn said_of_server(
     numbers: (u64, u64, u64),
     sources: &[CanonPath],
     upstream: &[UpstreamAt],
+    patterns: Patterns<'_>,
     roots: &[CanonPath],
 ) -> String {
     let (workers, port, secs) = numbers;
@@ -86,6 +102,7 @@ fn said_of_server(
     push_folders(rt, &mut text, " ", roots);
     push_folders(rt, &mut text, ":", sources);
     push_servers(rt, alloc, &mut text, ">", upstream);
+    push_patterns(rt, &mut text, patterns);
     text
 }
 
@@ -99,8 +116,16 @@ fn said(rt: &impl Abort, alloc: Global, line: &Line<'_>) -> String {
         Line::Scan {
             store,
             workers,
+            patterns,
             roots,
-        } => Ok(said_of_scan(rt, alloc, store, *workers, roots.as_slice())),
+        } => Ok(said_of_scan(
+            rt,
+            alloc,
+            store,
+            *workers,
+            *patterns,
+            roots.as_slice(),
+        )),
         Line::Serve {
             store,
             workers,
@@ -108,6 +133,7 @@ fn said(rt: &impl Abort, alloc: Global, line: &Line<'_>) -> String {
             secs,
             sources,
             upstream,
+            patterns,
             roots,
         } => Ok(said_of_server(
             rt,
@@ -116,6 +142,7 @@ fn said(rt: &impl Abort, alloc: Global, line: &Line<'_>) -> String {
             (*workers, *port, *secs),
             sources.as_slice(),
             upstream.as_slice(),
+            *patterns,
             roots.as_slice(),
         )),
         Line::Trial {
@@ -164,6 +191,7 @@ fn words_ask_what_they_say(rt: HostRuntime) {
     each_says(&rt, alloc, &QUERIES);
     each_says(&rt, alloc, &SCANS);
     each_says(&rt, alloc, &OPTIONS);
+    each_says(&rt, alloc, &PATTERNS);
     each_says(&rt, alloc, &SERVERS);
     each_says(&rt, alloc, &SERVE_OPTIONS);
     each_says(&rt, alloc, &VERSIONS);

@@ -30,7 +30,7 @@ use Rattle.tree_trait.specs.Fills.{IsReadOfFile}
 use Rattle.tree_trait.specs.Heard.{Heard, open_file}
 use Rattle.tree_trait.specs.Open.{OpenFacts, was_opened, was_too_large, open_failed, open_no_memory}
 use Rattle.pass_runner.specs.Settled.{AlteredAreMissed, IsHeardAltered, MissesStay, is_missed}
-use Rattle.pass_runner.specs.Turns.{IsLookUnder}
+use Rattle.pass_runner.specs.Turns.{IsLookAmong}
 use Rattle.pass_runner.proofs.NameLists.{one_name}
 use Rattle.pass_runner.proofs.ReadsHeard.{that_opening}
 
@@ -136,10 +136,10 @@ first_least listing (m ∷ ms) miss order first name there before =
 pub unaltered_none : {K : Type 0} (listing : List NameFacts) (state : StateFacts K) → AlteredAreMissed listing [] state
 unaltered_none listing state = λ name met h. absurd (omega (arith, h.heard.1))
 
-pub unaltered_looks : {K : Type 0} (listing : List NameFacts) (roots : List (List ℕ)) (answers : List Heard) (state : StateFacts K)
-    → All (IsLookUnder roots) answers → AlteredAreMissed listing answers state
-unaltered_looks listing roots answers state looks = λ name met h.
-    absurd (All-contains (IsLookUnder roots) answers (heard_opening name h.answer) looks h.heard)
+pub unaltered_looks : {K : Type 0} (listing : List NameFacts) (looks : List ℕ → Bool) (answers : List Heard) (state : StateFacts K)
+    → All (IsLookAmong looks) answers → AlteredAreMissed listing answers state
+unaltered_looks listing looks answers state asked = λ name met h.
+    absurd (All-contains (IsLookAmong looks) answers (heard_opening name h.answer) asked h.heard)
 
 same_opening : {p q : List ℕ} {l m : ℕ} {a b : OpenFacts} → open_file p l a ≡ open_file q m b → (p ≡ q) × (a ≡ b)
 same_opening e = (cc, cc)

@@ -1,10 +1,11 @@
 -- A pass with which other hands help: what they leave of the index, and how it ends.
-use Rattle.std.proofs.Common.{◌≡◌, ℕ, ◌≤◌, ◌<◌, inl, inr, Bool, true, false, List, [], length, take, Option, refl, sym, ◌∙◌, ap, subst, arith, IsTrue}
+use Rattle.std.proofs.Common.{◌≡◌, ℕ, ◌≤◌, ◌<◌, inl, inr, Bool, true, false, List, length, take, Option, refl, sym, ◌∙◌, ap, subst, arith, IsTrue}
 use Rattle.std.specs.List.{filter}
 use Rattle.std.specs.Prelude.{IfSome}
 use Rattle.std.proofs.lemmas.Bool.{and_from, true≢false}
 use Rattle.std.proofs.lemmas.List.{take-append-le, take_all}
 use mathlib.Core.List.{IsPrefix}
+use Rattle.path_scope.specs.Scope.{Scope}
 use Rattle.row_types.specs.Name.{NameFacts}
 use Rattle.row_types.specs.Rules.{Rules}
 use Rattle.index_keeper.specs.Keeper.{ShownKeeper}
@@ -31,8 +32,8 @@ use Rattle.pass_runner.specs.declared.pass_end.PassEnd.TheVariants.{KeeperFault,
 use Rattle.pass_runner.proofs.PassEnds.{planned_open}
 
 -- an index over which a pass was begun, whose listed rows' names are skipped from now on
-abbrev pub shared_from : {K : Type 0} → List NameFacts → List (List ℕ) → StateFacts K → StateFacts K
-shared_from listing roots old = after_spare (after_begin listing roots old)
+abbrev pub shared_from : {K : Type 0} → List NameFacts → Scope → StateFacts K → StateFacts K
+shared_from listing scope old = after_spare (after_begin listing scope old)
 
 -- the names that the front of a log leaves
 front_leaves : (front log : List Change) (names : List NameFacts) → IsPrefix front log → names ≡ replay front
@@ -43,12 +44,12 @@ front_leaves front log names begins same =
     (take-append-le (length front) front begins.0 (omega arith) ∙ take_all (length front) front (omega arith))
     ∙ sym same
 
-module _ {K : Type 0} (count : ℕ) (some : 1 < count) (listing : List NameFacts) (roots : List (List ℕ)) (old : StateFacts K)
+module _ {K : Type 0} (count : ℕ) (some : 1 < count) (listing : List NameFacts) (scope : Scope) (old : StateFacts K)
     (few : still_open listing (row_names old.rows) ≤ most_changes (plan_of listing (row_names old.rows))) where
   -- what is found behind the lock
   pub helped_found : (found : StateFacts K) {at : Option Sparing} {long : ℕ} → old.broken ≡ false
-      → row_names old.rows ≡ replay old.log → IsPrefix (shared_from listing roots old).log found.log
-      → found.origin ≡ (shared_from listing roots old).origin
+      → row_names old.rows ≡ replay old.log → IsPrefix (shared_from listing scope old).log found.log
+      → found.origin ≡ (shared_from listing scope old).origin
       → AreSpared at long found.origin.spared (pass_or_none found.pass).listing (row_names found.rows)
       → IfSome found.origin.sparing (IsBounded found.broken found.log (row_names found.rows))
       → IsHelped count listing old found
@@ -71,7 +72,7 @@ module _ {K : Type 0} (count : ℕ) (some : 1 < count) (listing : List NameFacts
   }
 
   -- where nobody helped
-  pub helped_none : IsHelped count listing old (shared_from listing roots old)
+  pub helped_none : IsHelped count listing old (shared_from listing scope old)
   helped_none = record {
     log = prefix_self old.log;
     stays = λ name listed there. there;
@@ -85,8 +86,8 @@ module _ {K : Type 0} (count : ℕ) (some : 1 < count) (listing : List NameFacts
       (before after : T) (found new : StateFacts K) (helped : IsHelped count listing old found) where
     at_found : (e : PassEnd)
         → EndsBegun world told tells shows (plan_of listing (row_names old.rows)) (sees before) (sees after)
-        (after_begin listing roots found) new e
-        → EndsFound world told tells shows count listing roots (sees before) (sees after) old new e
+        (after_begin listing scope found) new e
+        → EndsFound world told tells shows count listing scope (sees before) (sees after) old new e
     at_found e h = record { found = found; helped = helped; begun = h }
 
     left_at : (Why Ends : Type 0) → (Why → Ends) → StaysOut before after found new Why
@@ -99,8 +100,8 @@ module _ {K : Type 0} (count : ℕ) (some : 1 < count) (listing : List NameFacts
 
     -- the end of the second pass is that of the whole
     pub over_again : (e : PassEnd)
-        → EndsAgain world told tells shows sees (plan_of listing (row_names old.rows)) listing roots before after found new e
-        → EndsOver world told tells shows sees count listing roots before after old new e
+        → EndsAgain world told tells shows sees (plan_of listing (row_names old.rows)) listing scope before after found new e
+        → EndsOver world told tells shows sees count listing scope before after old new e
     over_again (Whole summary) h = at_found (Whole summary) h
     over_again (Missed miss) h = at_found (Missed miss) h
     over_again LogFull h = at_found LogFull h
@@ -115,14 +116,14 @@ module _ {K : Type 0} (count : ℕ) (some : 1 < count) (listing : List NameFacts
 
 -- the pass that was weighed
 pub over_weighed : {K T : Type 0} (world : Rules) (told tells : Bool) (shows : K → ShownKeeper) (sees : T → ShownTree)
-    (count : ℕ) (listing : List NameFacts) (roots : List (List ℕ)) (before after : T) (old new : StateFacts K) (asked : ℕ) (many : Bool)
+    (count : ℕ) (listing : List NameFacts) (scope : Scope) (before after : T) (old new : StateFacts K) (asked : ℕ) (many : Bool)
     (end final : PassEnd) → IsWeighed end asked many final
-    → EndsOver world told tells shows sees count listing roots before after old new end
-    → EndsOver world told tells shows sees count listing roots before after old new final
-over_weighed {K} {T} world told tells shows sees count listing roots before after old new asked many end final weighed h = by final end weighed h
+    → EndsOver world told tells shows sees count listing scope before after old new end
+    → EndsOver world told tells shows sees count listing scope before after old new final
+over_weighed {K} {T} world told tells shows sees count listing scope before after old new asked many end final weighed h = by final end weighed h
   where
     Over : PassEnd → Type 0
-    Over e = EndsOver world told tells shows sees count listing roots before after old new e
+    Over e = EndsOver world told tells shows sees count listing scope before after old new e
 
     refused : (e : PassEnd) → IsTrue (is_whole e) → Over e → Over OutOfMemory
     refused (Whole summary) h o = inr (inl (record {
@@ -149,22 +150,22 @@ over_weighed {K} {T} world told tells shows sees count listing roots before afte
 
 -- a pass that was begun again and ended by a fault of the keeper left a broken index
 pub again_broken : {K T : Type 0} (world : Rules) (told tells : Bool) (shows : K → ShownKeeper) (sees : T → ShownTree) (plan : Plan)
-    (listing : List NameFacts) (roots : List (List ℕ)) (before after : T) (old new : StateFacts K) (end : PassEnd)
-    → EndsAgain world told tells shows sees plan listing roots before after old new end → end ≡ KeeperFault → new.broken ≡ true
-again_broken {K} world told tells shows sees plan listing roots before after old new KeeperFault (inl h) is = h.ends
-again_broken {K} world told tells shows sees plan listing roots before after old new KeeperFault (inr h) is =
+    (listing : List NameFacts) (scope : Scope) (before after : T) (old new : StateFacts K) (end : PassEnd)
+    → EndsAgain world told tells shows sees plan listing scope before after old new end → end ≡ KeeperFault → new.broken ≡ true
+again_broken {K} world told tells shows sees plan listing scope before after old new KeeperFault (inl h) is = h.ends
+again_broken {K} world told tells shows sees plan listing scope before after old new KeeperFault (inr h) is =
     ap (λ (s : StateFacts K). s.broken) h.state ∙ h.why
-again_broken world told tells shows sees plan listing roots before after old new (Whole summary) h is = absurd (cc)
-again_broken world told tells shows sees plan listing roots before after old new (Missed miss) h is = absurd (cc)
-again_broken world told tells shows sees plan listing roots before after old new LogFull h is = absurd (cc)
-again_broken world told tells shows sees plan listing roots before after old new OutOfMemory h is = absurd (cc)
-again_broken world told tells shows sees plan listing roots before after old new (Walk fault) h is = absurd h
-again_broken world told tells shows sees plan listing roots before after old new Broken h is = absurd h
+again_broken world told tells shows sees plan listing scope before after old new (Whole summary) h is = absurd (cc)
+again_broken world told tells shows sees plan listing scope before after old new (Missed miss) h is = absurd (cc)
+again_broken world told tells shows sees plan listing scope before after old new LogFull h is = absurd (cc)
+again_broken world told tells shows sees plan listing scope before after old new OutOfMemory h is = absurd (cc)
+again_broken world told tells shows sees plan listing scope before after old new (Walk fault) h is = absurd h
+again_broken world told tells shows sees plan listing scope before after old new Broken h is = absurd h
 
-module _ {K : Type 0} (count : ℕ) (some : 1 < count) {listing : List NameFacts} {roots : List (List ℕ)} {plan : Plan}
-    {old mid shared : StateFacts K} (begins : BeginsPass listing roots plan old mid) (spared : shared ≡ after_spare mid) where
+module _ {K : Type 0} (count : ℕ) (some : 1 < count) {listing : List NameFacts} {scope : Scope} {plan : Plan}
+    {old mid shared : StateFacts K} (begins : BeginsPass listing scope plan old mid) (spared : shared ≡ after_spare mid) where
   -- the index that goes behind the lock
-  is_shared : shared ≡ shared_from listing roots old
+  is_shared : shared ≡ shared_from listing scope old
   is_shared = spared ∙ ap (λ (s : StateFacts K). after_spare s) begins.after
 
   -- the names that it skips
@@ -178,7 +179,7 @@ module _ {K : Type 0} (count : ℕ) (some : 1 < count) {listing : List NameFacts
     hand = refl;
     helped =
         subst (λ (s : StateFacts K). IsHelped count listing old s) (sym (same ∙ is_shared))
-        (helped_none count some listing roots old (planned_open begins));
+        (helped_none count some listing scope old (planned_open begins));
     ends = ap (λ (s : StateFacts K). s.broken) (same ∙ is_shared) ∙ begins.sound;
   }
 
@@ -188,15 +189,15 @@ module _ {K : Type 0} (count : ℕ) (some : 1 < count) {listing : List NameFacts
       → IsPrefix shared.log found.log → found.origin ≡ shared.origin
       → AreSpared at long found.origin.spared (pass_or_none found.pass).listing (row_names found.rows)
       → IfSome found.origin.sparing (IsBounded found.broken found.log (row_names found.rows))
-      → {again : List NameFacts} {roots_again : List (List ℕ)} → again ≡ listing → roots_again ≡ roots → (end : PassEnd)
-      → EndsAgain world told tells shows sees plan again roots_again before after found new end
-      → EndsOver world told tells shows sees count listing roots before after old new end
-  over_shared world told tells shows sees before after found new names log origin skips bounded {again} {roots_again} same_names same_roots end ends =
-      over_again count some listing roots old (planned_open begins) world told tells shows sees before after found new
-      (helped_found count some listing roots old (planned_open begins) found begins.sound
+      → {again : List NameFacts} {scope_again : Scope} → again ≡ listing → scope_again ≡ scope → (end : PassEnd)
+      → EndsAgain world told tells shows sees plan again scope_again before after found new end
+      → EndsOver world told tells shows sees count listing scope before after old new end
+  over_shared world told tells shows sees before after found new names log origin skips bounded {again} {scope_again} same_names same_scope end ends =
+      over_again count some listing scope old (planned_open begins) world told tells shows sees before after found new
+      (helped_found count some listing scope old (planned_open begins) found begins.sound
       (sym (ap (λ (s : StateFacts K). row_names s.rows) is_shared) ∙ names ∙ ap (λ (s : StateFacts K). replay s.log) is_shared)
       (subst (λ (s : StateFacts K). IsPrefix s.log found.log) is_shared log)
       (origin ∙ ap (λ (s : StateFacts K). s.origin) is_shared) skips bounded) end
-      (subst (λ (p : Plan). EndsAgain world told tells shows sees p listing roots before after found new end) begins.planned
-      (subst (λ (rs : List (List ℕ)). EndsAgain world told tells shows sees plan listing rs before after found new end) same_roots
-      (subst (λ (ns : List NameFacts). EndsAgain world told tells shows sees plan ns roots_again before after found new end) same_names ends)))
+      (subst (λ (p : Plan). EndsAgain world told tells shows sees p listing scope before after found new end) begins.planned
+      (subst (λ (rs : Scope). EndsAgain world told tells shows sees plan listing rs before after found new end) same_scope
+      (subst (λ (ns : List NameFacts). EndsAgain world told tells shows sees plan ns scope_again before after found new end) same_names ends)))

@@ -9,9 +9,9 @@ use Rattle.row_types.specs.Row.{RowFacts}
 use Rattle.index_keeper.specs.Keeper.{ShownKeeper}
 use Rattle.index_rows.specs.Rows.{row_names}
 use Rattle.index_state.specs.Invariant.{IndexInvariant}
-use Rattle.index_state.specs.Judge.{is_under}
+use Rattle.index_state.specs.Marks.{is_marked}
 use Rattle.index_state.specs.State.{StateFacts, pass_or_none}
-use Rattle.scan_queue.specs.Names.{is_in}
+use Rattle.scan_queue.specs.Names.{is_in, is_path_in}
 use Rattle.scan_queue.specs.declared.miss.Seen.{Seen}
 use Rattle.scan_worker.specs.Read.{heard_opening}
 use Rattle.tree_trait.specs.Found.{Versions}
@@ -32,7 +32,7 @@ module _ {K : Type 0} {told : Bool} {version : Versions} {shows : K → ShownKee
   abbrev pub settles_by : {before after : ShownTree} {old new : StateFacts K} {answers : List Heard}
       → Listens told version before after answers
       → All (Wants old) answers
-      → AreReadingsAndLooks old.roots answers
+      → AreReadingsAndLooks (is_marked old.pass) answers
       → AlteredAreMissed (pass_or_none old.pass).listing answers new
       → Advances shows answers (Rose before.faults after.faults) old new
       → Proceeds told version shows before after old new
@@ -47,7 +47,7 @@ module _ {K : Type 0} {told : Bool} {version : Versions} {shows : K → ShownKee
       (unaltered_none (pass_or_none state.pass).listing state) (record {
         keeper = omega arith;
         pass = opened;
-        roots = refl;
+        marked = refl;
         origin = refl;
         moves = moves_same refl;
         missed = still_missed (pass_or_none state.pass).listing (row_names state.rows) (pass_or_none state.pass).missed [] (Rose hand.faults hand.faults);
@@ -78,7 +78,7 @@ module _ {K : Type 0} {told : Bool} {version : Versions} {shows : K → ShownKee
       → (asked : Heard) → Wants mid asked
       → Wants old asked
   wanted_before p (load path limit answer) h = absurd h
-  wanted_before p (stat path answer) h = ap (λ (r : List (List ℕ)). is_under r path) (sym p.on.roots) ∙ h
+  wanted_before p (stat path answer) h = ap (λ (l : List NameFacts). is_path_in l path) (sym p.on.marked) ∙ h
   wanted_before p (read_dir path answer) h = absurd h
   wanted_before p (open_file path limit answer) h = (h.0, had_before p path h.1)
   wanted_before p (read_at name at answer) h = had_before p name.path h
@@ -108,7 +108,7 @@ module _ {K : Type 0} {told : Bool} {version : Versions} {shows : K → ShownKee
       (All-weaker (Wants mid)
       (Wants old) (wanted_before p) q.answers q.wanted))
       (readings_both q.answers p.parts
-      (subst (λ (roots : List (List ℕ)). AreReadingsAndLooks roots q.answers) p.on.roots q.parts))
+      (subst (λ (l : List NameFacts). AreReadingsAndLooks (is_path_in l) q.answers) p.on.marked q.parts))
       (altered_then p q)
       (advances_then (λ rose. rose_before before.faults rose q.listens.hand.cause.later) (λ rose. rose_after p.listens.hand.cause.later rose)
       p.on q.on)

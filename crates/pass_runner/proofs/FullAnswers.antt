@@ -3,6 +3,7 @@ use Rattle.std.proofs.Common.{◌≡◌, ℕ, inl, inr, true, List, [], ◌∷�
 use Rattle.std.specs.List.{All}
 use Rattle.std.specs.Option.{option_or}
 use Rattle.std.proofs.lemmas.List.Elements.{All-head, All-tail}
+use Rattle.path_scope.specs.Scope.{Scope}
 use Rattle.row_types.specs.Name.{NameFacts}
 use Rattle.tree_trait.specs.Dir.{DirFacts}
 use Rattle.tree_trait.specs.Entry.{has_entry}
@@ -11,11 +12,11 @@ use Rattle.tree_trait.specs.declared.entry.EntryKind.{EntryKind}
 use Rattle.tree_trait.specs.declared.entry.EntryKind.TheVariants as kind
 use Rattle.tree_trait.specs.declared.stat.StatAnswer.{StatAnswer}
 use Rattle.tree_walk.specs.Answers.{listed_entries, first_look, first_reading, first_some, look_at, reading_of}
-use Rattle.tree_walk.specs.Walked.{AsksAll, IsCandidate, IsEntry, IsFolder, IsNamed, IsReached, IsWalkListing, IsWalked, root, entry}
+use Rattle.tree_walk.specs.Walked.{AsksAll, IsCandidate, IsEntry, IsFileEntry, IsFolder, IsNamed, IsReached, IsWalkListing, IsWalked, root, entry}
 use Rattle.tree_walk.proofs.FirstLemmas.{first_some-append, or_none}
 use Rattle.tree_walk.proofs.ReachLemmas.{candidate_more}
 
-module _ (roots : List (List ℕ)) (Asked : Heard → Type 0)
+module _ (scope : Scope) (Asked : Heard → Type 0)
     (never : (path : List ℕ) (answer : DirFacts) → Asked (read_dir path answer) → ⊥) where
   reads_none : (path : List ℕ) (more : List Heard) → All Asked more
       → first_some (reading_of path) more ≡ None
@@ -47,16 +48,19 @@ module _ (roots : List (List ℕ)) (Asked : Heard → Type 0)
       joined = n.joined;
     }
 
-    reached_before : (path : List ℕ) → IsReached (answers ++ more) roots path → IsReached answers roots path
+    reached_before : (path : List ℕ) → IsReached (answers ++ more) scope path → IsReached answers scope path
     reached_before path (root p c) = root p c
     reached_before path (entry folder p k r n) = entry folder p k (reached_before folder r) (named_before folder k p n)
 
-    entry_before : (k : EntryKind) (path : List ℕ) → IsEntry (answers ++ more) roots k path → IsEntry answers roots k path
+    entry_before : (k : EntryKind) (path : List ℕ) → IsEntry (answers ++ more) scope k path → IsEntry answers scope k path
     entry_before k path e = record {
       folder = e.folder;
       reached = reached_before e.folder e.reached;
       named = named_before e.folder k path e.named;
     }
+
+    file_before : (path : List ℕ) → IsFileEntry (answers ++ more) scope path → IsFileEntry answers scope path
+    file_before path e = record { at = entry_before kind.File path e.at; taken = e.taken }
 
     same_or : (a b : Option StatAnswer) → IsSome a → option_or a b ≡ a
     same_or (Some x) b h = refl
@@ -70,48 +74,51 @@ module _ (roots : List (List ℕ)) (Asked : Heard → Type 0)
     still_looked : (path : List ℕ) → IsSome (first_look answers path) → IsSome (first_look (answers ++ more) path)
     still_looked path some = subst (λ (o : Option StatAnswer). IsSome o) (sym (same_look path some)) some
 
-    module _ (full : AsksAll answers roots) where
-      folder_before : (path : List ℕ) → IsFolder (answers ++ more) roots path → IsFolder answers roots path
+    module _ (full : AsksAll answers scope) where
+      folder_before : (path : List ℕ) → IsFolder (answers ++ more) scope path → IsFolder answers scope path
       folder_before path (inl r) =
           inl (record { root = r.root; folder = sym (same_look path (full.looked path r.root)) ∙ r.folder })
       folder_before path (inr e) = inr (entry_before kind.Folder path e)
 
       -- all of it is full
-      pub full_stays : AsksAll (answers ++ more) roots
+      pub full_stays : AsksAll (answers ++ more) scope
       full_stays = record {
         looked = λ path r. still_looked path (full.looked path r);
         folders = λ path f short.
             subst (λ (o : Option DirFacts). IsSome o) (sym (same_reading path)) (full.folders path (folder_before path f) short);
-        files = λ path e short. still_looked path (full.files path (entry_before kind.File path e) short);
+        files = λ path e short. still_looked path (full.files path (file_before path e) short);
       }
 
-      looked_before : (name : NameFacts) (w : IsWalked (answers ++ more) roots name) → IsWalked answers roots name
+      looked_before : (name : NameFacts) (w : IsWalked (answers ++ more) scope name) → IsWalked answers scope name
       looked_before name w = by w.candidate
         where
-          by : IsCandidate (answers ++ more) roots name.path → IsWalked answers roots name
+          by : IsCandidate (answers ++ more) scope name.path → IsWalked answers scope name
           by (inl r) = record {
             candidate = inl r;
+            taken = w.taken;
             short = w.short;
             file = sym (same_look name.path (full.looked name.path r)) ∙ w.file;
           }
           by (inr e) =
-              let before : IsEntry answers roots kind.File name.path = entry_before kind.File name.path e in
+              let before : IsFileEntry answers scope name.path = file_before name.path e in
               record {
                 candidate = inr before;
+                taken = w.taken;
                 short = w.short;
                 file = sym (same_look name.path (full.files name.path before w.short)) ∙ w.file;
               }
 
-      looked_after : (name : NameFacts) → IsWalked answers roots name → IsWalked (answers ++ more) roots name
+      looked_after : (name : NameFacts) → IsWalked answers scope name → IsWalked (answers ++ more) scope name
       looked_after name w = record {
-        candidate = candidate_more answers more roots name.path w.candidate;
+        candidate = candidate_more answers more scope name.path w.candidate;
+        taken = w.taken;
         short = w.short;
         file = same_look name.path (subst (λ (o : Option StatAnswer). IsSome o) (sym w.file) refl) ∙ w.file;
       }
 
       -- and leads to the same listing
-      pub listing_stays : (found : List NameFacts) → IsWalkListing answers roots found
-          → IsWalkListing (answers ++ more) roots found
+      pub listing_stays : (found : List NameFacts) → IsWalkListing answers scope found
+          → IsWalkListing (answers ++ more) scope found
       listing_stays found h = record {
         by_path = h.by_path;
         all = λ name. (

@@ -1,8 +1,9 @@
 -- What single holds of a shared index show.
-use Rattle.std.proofs.Common.{◌≡◌, ℕ, ◌+◌, Bool, true, false, not, cond, List, [], ◌∷◌, length, Option, Some, None, refl, sym, ◌∙◌, ap, subst, arith}
+use Rattle.std.proofs.Common.{◌≡◌, ◌+◌, Bool, true, false, not, cond, List, [], ◌∷◌, length, Option, Some, None, refl, sym, ◌∙◌, ap, subst, arith}
 use Rattle.std.specs.Prelude.{is_none}
 use Rattle.std.proofs.lemmas.Bool.{and_parts}
 use Rattle.std.proofs.lemmas.List.Sums.{sum_by-cons}
+use Rattle.path_scope.specs.Scope.{Scope}
 use Rattle.row_types.specs.Name.{NameFacts, stamp_at}
 use Rattle.row_types.specs.Row.{RowFacts}
 use Rattle.row_types.specs.Stamp.{StampFacts, same_stamp}
@@ -14,7 +15,8 @@ use Rattle.scan_queue.specs.Names.{IsByPath, is_in}
 use Rattle.scan_queue.specs.declared.miss.Seen.{Seen}
 use Rattle.index_state.specs.Changes.{VoidWhere}
 use Rattle.index_state.specs.Invariant.{IndexInvariant}
-use Rattle.index_state.specs.Judge.{is_file, is_under}
+use Rattle.index_state.specs.Judge.{is_file}
+use Rattle.index_state.specs.Marks.{is_marked}
 use Rattle.index_state.specs.Plan.{has_stamp, is_other, plan_of}
 use Rattle.index_state.specs.State.{Origin, StateFacts}
 use Rattle.index_state.specs.Step.{BeginsOrNot, BeginsPass, Judges, begins, judges, to_begin, to_judge}
@@ -67,11 +69,11 @@ module _ {K : Type 0} (tells : Bool) (shows : K → ShownKeeper) {old new : Stat
         ap (λ (names : List NameFacts). is_in names name)
         (sym holds.rows_replay_the_log.names ∙ ap (λ (s : StateFacts K). row_names s.rows) h.missed.same)
         ∙ h.strange.left_over.stands;
-    file = (and_parts (is_under old.roots name.path) (is_file met name.stamp) h.strange.strange).1;
+    file = (and_parts (is_marked old.pass name.path) (is_file met name.stamp) h.strange.strange).1;
   }
 
-  planned_by : {true_row : RowFacts → Type 0} {listing : List NameFacts} {roots : List (List ℕ)} {plan : Plan}
-      → IndexInvariant true_row tells shows new → BeginsPass listing roots plan old new → IsPlanned listing plan new.log
+  planned_by : {true_row : RowFacts → Type 0} {listing : List NameFacts} {scope : Scope} {plan : Plan}
+      → IndexInvariant true_row tells shows new → BeginsPass listing scope plan old new → IsPlanned listing plan new.log
   planned_by {listing = listing} {plan = plan} holds h =
       let names : row_names old.rows ≡ replay new.log =
       sym (ap (λ (s : StateFacts K). row_names s.rows) h.after) ∙ holds.rows_replay_the_log.names in
@@ -88,27 +90,27 @@ module _ {K : Type 0} (tells : Bool) (shows : K → ShownKeeper) {old new : Stat
 
 -- what the first hold shows
 pub begin_shows : {K : Type 0} (tells : Bool) (shows : K → ShownKeeper) (old : StateFacts K) {new : StateFacts K}
-    {true_row : RowFacts → Type 0} (listing : List NameFacts) (roots : List (List ℕ))
-    → IndexInvariant true_row tells shows new → (answer : Begun) → BeginsOrNot listing roots old answer new
+    {true_row : RowFacts → Type 0} (listing : List NameFacts) (scope : Scope)
+    → IndexInvariant true_row tells shows new → (answer : Begun) → BeginsOrNot listing scope old answer new
     → BeginShows listing answer new.log
-begin_shows tells shows old listing roots holds (begun.Begun plan) h = planned_by tells shows holds h
-begin_shows {K} tells shows old listing roots holds begun.Broken h =
+begin_shows tells shows old listing scope holds (begun.Begun plan) h = planned_by tells shows holds h
+begin_shows {K} tells shows old listing scope holds begun.Broken h =
     void_by tells shows true holds (ap (λ (s : StateFacts K). s.broken) h.same ∙ h.why)
-begin_shows tells shows old listing roots holds begun.OutOfMemory h = tt
+begin_shows tells shows old listing scope holds begun.OutOfMemory h = tt
 
 module _ {K : Type 0} (tells : Bool) (shows : K → ShownKeeper) {true_row : RowFacts → Type 0} {seat later : SeatFacts Change Origin} where
-  pub begin_shown : (listing : List NameFacts) (roots : List (List ℕ)) (answer : Begun)
-      → HoldsEvent true_row tells shows (begins listing roots) (to_begin answer) seat later
+  pub begin_shown : (listing : List NameFacts) (scope : Scope) (answer : Begun)
+      → HoldsEvent true_row tells shows (begins listing scope) (to_begin answer) seat later
       → BeginShows listing answer later.seen
-  begin_shown listing roots answer h =
+  begin_shown listing scope answer h =
       subst (λ (log : List Change). BeginShows listing answer log) (sym h.seen)
-      (begin_shows tells shows h.old listing roots h.does.holds answer h.does.does)
+      (begin_shows tells shows h.old listing scope h.does.holds answer h.does.does)
 
   -- a pass begins where no name was spared, so that none is skipped
-  pub begin_none : (listing : List NameFacts) (roots : List (List ℕ)) (answer : Begun)
-      → HoldsEvent true_row tells shows (begins listing roots) (to_begin answer) seat later
+  pub begin_none : (listing : List NameFacts) (scope : Scope) (answer : Begun)
+      → HoldsEvent true_row tells shows (begins listing scope) (to_begin answer) seat later
       → seat.origin.sparing ≡ None → seat.origin.spared ≡ []
-  begin_none listing roots answer h never =
+  begin_none listing scope answer h never =
       let same : h.new.origin ≡ seat.origin = h.stays ∙ h.from in
       ap (λ (o : Origin). o.spared) (sym same)
       ∙ h.does.holds.skipped_names_stand.none (ap (λ (o : Origin). o.sparing) same ∙ never)

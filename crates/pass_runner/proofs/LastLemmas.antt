@@ -5,6 +5,7 @@ use Rattle.std.specs.Prelude.{IfSome, IsSome}
 use Rattle.std.proofs.lemmas.Bool.{and_parts, cond-false, not_from_true, or_left, or_right, true≢false}
 use Rattle.std.proofs.lemmas.Bool.Decides.{nat_tests}
 use mathlib.Core.List.{IsPrefix}
+use Rattle.path_scope.specs.Scope.{Scope}
 use Rattle.row_types.specs.Name.{NameFacts, same_name, stamp_at}
 use Rattle.row_types.specs.Rules.{Rules}
 use Rattle.index_keeper.specs.Keeper.{ShownKeeper}
@@ -13,11 +14,12 @@ use Rattle.index_rows.specs.Log.{replay}
 use Rattle.index_rows.specs.Rows.{row_names}
 use Rattle.index_rows.specs.declared.rows.TheConstants.{LOG_LIMIT}
 use Rattle.scan_queue.specs.Names.{IsByPath, is_in, not_in}
-use Rattle.scan_queue.specs.Pass.{IsPass, PassFacts, begun as begun_pass}
+use Rattle.scan_queue.specs.Pass.{IsPass, PassFacts, begun_with}
 use Rattle.scan_queue.specs.declared.miss.Miss.{Miss}
 use Rattle.index_state.specs.Changes.{EndsVoid}
 use Rattle.index_state.specs.Complete.{CompletePass, LeavesNone, standing_of}
 use Rattle.index_state.specs.Invariant.{IndexInvariant}
+use Rattle.index_state.specs.Marks.{marked_in}
 use Rattle.index_state.specs.Plan.{has_stamp}
 use Rattle.index_state.specs.State.{StateFacts, pass_or_none}
 use Rattle.index_state.specs.Step.{BeginsPass, StateStays}
@@ -49,9 +51,9 @@ none_beside others (n ∷ names) all =
     ∙ none_beside others names (λ m there. all m (or_right (same_name m n) (is_in names m) there))
 
 -- a pass over the names of its rows has nothing to do
-none_begun : {K : Type 0} (state : StateFacts K) (names listing : List NameFacts) → state.pass ≡ Some (begun_pass listing names)
+none_begun : {K : Type 0} (state : StateFacts K) (names listing marked : List NameFacts) → state.pass ≡ Some (begun_with listing names marked)
     → names ≡ listing → is_none_left (standing_of state) ≡ true
-none_begun {K} state names listing is same =
+none_begun {K} state names listing marked is same =
     let none : not_in listing listing ≡ [] = none_beside listing listing (λ n there. there) in
     let todo : length (not_in names listing) ≡ 0 =
     ap (λ (l : List NameFacts). length (not_in l listing)) same ∙ ap (λ (l : List NameFacts). length l) none in
@@ -105,12 +107,12 @@ shut_again value left full = record {
 }
 
 module _ {K : Type 0} (world : Rules) (tells : Bool) (shows : K → ShownKeeper) (listing : List NameFacts)
-    (roots : List (List ℕ)) (plan : Plan) (own : Option Miss) (met : List Miss) (old : StateFacts K) {new : StateFacts K}
+    (scope : Scope) (plan : Plan) (own : Option Miss) (met : List Miss) (old : StateFacts K) {new : StateFacts K}
     (holds : IndexInvariant world.true_row tells shows new)
     (among : IfSome own (λ miss. Contains met miss))
-    (of_pass : IfSome own (λ miss. IsOfPass listing roots miss.name miss.cause))
+    (of_pass : IfSome own (λ miss. IsOfPass listing scope miss.name miss.cause))
     (stands : IfSome own (λ miss. IsOpenBy listing (row_names old.rows) miss.name)) where
-  module _ {again : Plan} (begins : BeginsPass listing roots again old new) where
+  module _ {again : Plan} (begins : BeginsPass listing scope again old new) where
     sound_last : ¬ EndsVoid new.log
     sound_last void =
         never_both (void_by tells shows false holds (ap (λ (s : StateFacts K). s.broken) begins.after ∙ begins.sound)) void
@@ -119,10 +121,10 @@ module _ {K : Type 0} (world : Rules) (tells : Bool) (shows : K → ShownKeeper)
     over_listing = ap (λ (s : StateFacts K). (pass_or_none s.pass).listing) begins.after
 
     -- the pass was begun over the rows that stand
-    begun_over : new.pass ≡ Some (begun_pass listing (row_names new.rows))
+    begun_over : new.pass ≡ Some (begun_with listing (row_names new.rows) (marked_in scope listing (row_names new.rows)))
     begun_over =
         ap (λ (s : StateFacts K). s.pass) begins.after
-        ∙ ap (λ (s : StateFacts K). Some (begun_pass listing (row_names s.rows))) (sym begins.after)
+        ∙ ap (λ (s : StateFacts K). Some (begun_with listing (row_names s.rows) (marked_in scope listing (row_names s.rows)))) (sym begins.after)
 
     -- the rows' names are what the log leaves
     logged : row_names new.rows ≡ replay new.log
@@ -141,7 +143,7 @@ module _ {K : Type 0} (world : Rules) (tells : Bool) (shows : K → ShownKeeper)
         ∙ ap not (has_stamp_is_in name listing listed)
 
     opened_shows : (end : PassEnd) → EndsOpen world tells shows plan own new end
-        → LastShows world listing roots plan met new.log end
+        → LastShows world listing scope plan met new.log end
     opened_shows (Whole summary) h =
         let complete : CompletePass world.told world.true_row tells shows listing new
         = subst (λ (l : List NameFacts). CompletePass world.told world.true_row tells shows l new) over_listing h.complete in
@@ -154,13 +156,13 @@ module _ {K : Type 0} (world : Rules) (tells : Bool) (shows : K → ShownKeeper)
         }
     opened_shows (Missed miss) h = record {
       among = subst (λ (o : Option Miss). IfSome o (λ m. Contains met m)) h among;
-      of_pass = subst (λ (o : Option Miss). IfSome o (λ m. IsOfPass listing roots m.name m.cause)) h of_pass;
+      of_pass = subst (λ (o : Option Miss). IfSome o (λ m. IsOfPass listing scope m.name m.cause)) h of_pass;
       stands = still miss.name (subst (λ (o : Option Miss). IfSome o (λ m. IsOpenBy listing (row_names old.rows) m.name)) h stands);
       sound = sound_last;
     }
     opened_shows LogFull h = record {
       full = h.full;
-      apart = λ same. true≢false (sym (none_begun new (row_names new.rows) listing begun_over (logged ∙ same)) ∙ h.left);
+      apart = λ same. true≢false (sym (none_begun new (row_names new.rows) listing (marked_in scope listing (row_names new.rows)) begun_over (logged ∙ same)) ∙ h.left);
       sound = sound_last;
     }
     opened_shows OutOfMemory h = tt
@@ -169,8 +171,8 @@ module _ {K : Type 0} (world : Rules) (tells : Bool) (shows : K → ShownKeeper)
     opened_shows KeeperFault h = absurd h
 
   -- what the last hold shows
-  pub last_shows : (end : PassEnd) → BeginsLast world tells shows listing roots plan own old new end
-      → LastShows world listing roots plan met new.log end
+  pub last_shows : (end : PassEnd) → BeginsLast world tells shows listing scope plan own old new end
+      → LastShows world listing scope plan met new.log end
   last_shows KeeperFault h = void_by tells shows true holds (ap (λ (s : StateFacts K). s.broken) h.same ∙ h.why)
   last_shows OutOfMemory h = tt
   last_shows (Whole summary) h = opened_shows h.begins (Whole summary) h.ends
@@ -180,15 +182,15 @@ module _ {K : Type 0} (world : Rules) (tells : Bool) (shows : K → ShownKeeper)
   last_shows Broken h = absurd h.ends
 
 -- the pass is open once it was begun
-pub open_begun : {K : Type 0} {listing : List NameFacts} {roots : List (List ℕ)} {again : Plan} {old new : StateFacts K}
-    → BeginsPass listing roots again old new → IsSome new.pass
+pub open_begun : {K : Type 0} {listing : List NameFacts} {scope : Scope} {again : Plan} {old new : StateFacts K}
+    → BeginsPass listing scope again old new → IsSome new.pass
 open_begun {K} begins = subst (λ (s : StateFacts K). IsSome s.pass) (sym begins.after) refl
 
 -- and how it ended then
 pub opens_last : {K : Type 0} (world : Rules) (tells : Bool) (shows : K → ShownKeeper) (plan : Plan) (own : Option Miss)
-    {listing : List NameFacts} {roots : List (List ℕ)} {again : Plan} {old new : StateFacts K}
-    → BeginsPass listing roots again old new → (end : PassEnd) → EndsOpen world tells shows plan own new end
-    → BeginsLast world tells shows listing roots plan own old new end
+    {listing : List NameFacts} {scope : Scope} {again : Plan} {old new : StateFacts K}
+    → BeginsPass listing scope again old new → (end : PassEnd) → EndsOpen world tells shows plan own new end
+    → BeginsLast world tells shows listing scope plan own old new end
 opens_last world tells shows plan own {again = again} begins (Whole summary) ends = record { again = again; begins = begins; ends = ends }
 opens_last world tells shows plan own {again = again} begins (Missed miss) ends = record { again = again; begins = begins; ends = ends }
 opens_last world tells shows plan own {again = again} begins LogFull ends = record { again = again; begins = begins; ends = ends }
@@ -200,9 +202,9 @@ opens_last world tells shows plan own begins KeeperFault ends = absurd ends
 
 -- the log stays
 pub last_goes : {K : Type 0} (world : Rules) (tells : Bool) (shows : K → ShownKeeper) (listing : List NameFacts)
-    (roots : List (List ℕ)) (plan : Plan) (own : Option Miss) {old new : StateFacts K} → old.origin.sparing ≡ None
-    → old.origin.spared ≡ [] → (end : PassEnd) → BeginsLast world tells shows listing roots plan own old new end → GoesOn old new
-last_goes {K} world tells shows listing roots plan own {old} {new} never none end = by end
+    (scope : Scope) (plan : Plan) (own : Option Miss) {old new : StateFacts K} → old.origin.sparing ≡ None
+    → old.origin.spared ≡ [] → (end : PassEnd) → BeginsLast world tells shows listing scope plan own old new end → GoesOn old new
+last_goes {K} world tells shows listing scope plan own {old} {new} never none end = by end
   where
     same : {Why : Type 0} → StateStays Why old new → GoesOn old new
     same h = record {
@@ -210,10 +212,10 @@ last_goes {K} world tells shows listing roots plan own {old} {new} never none en
       origin = ap (λ (s : StateFacts K). s.origin) h.same;
     }
 
-    opens : {e : PassEnd} → OpensLast world tells shows listing roots plan own old new e → GoesOn old new
-    opens h = begin_goes listing roots never none (begun.Begun h.again) h.begins
+    opens : {e : PassEnd} → OpensLast world tells shows listing scope plan own old new e → GoesOn old new
+    opens h = begin_goes listing scope never none (begun.Begun h.again) h.begins
 
-    by : (e : PassEnd) → BeginsLast world tells shows listing roots plan own old new e → GoesOn old new
+    by : (e : PassEnd) → BeginsLast world tells shows listing scope plan own old new e → GoesOn old new
     by KeeperFault h = same h
     by OutOfMemory (inl h) = same h
     by OutOfMemory (inr h) = opens h

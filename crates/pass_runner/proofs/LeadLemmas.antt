@@ -1,8 +1,9 @@
 -- What the hand that leads a pass heard and noted, from nothing and one after the other.
-use Rattle.std.proofs.Common.{inl, inr, ℕ, Bool, List, [], ◌∷◌, ◌++◌, sym, subst}
+use Rattle.std.proofs.Common.{inl, inr, Bool, List, [], ◌∷◌, ◌++◌, sym, subst}
 use Rattle.std.specs.List.{All, Contains}
 use Rattle.std.proofs.lemmas.List.Elements.{All-append, All-cons, All-contains, All-contains_itself, All-nil, All-weaker, Contains-append_left, Contains-append_right}
 use mathlib.Core.List.{IsPrefix}
+use Rattle.path_scope.specs.Scope.{Scope, is_in_scope}
 use Rattle.row_types.specs.Faults.{Rose}
 use Rattle.row_types.specs.Name.{NameFacts}
 use Rattle.index_lock.specs.Tokens.{IsLater, SeatFacts}
@@ -47,11 +48,11 @@ still_noted brought log answers Failed missed =
     All-weaker (Contains missed) (IsMissNoted brought log answers Failed missed) (λ m before. inl before) missed
     (All-contains_itself missed)
 
-module _ {told : Bool} {version : Versions} {roots : List (List ℕ)} {missed : List Miss} where
+module _ {told : Bool} {version : Versions} {scope : Scope} {missed : List Miss} where
   -- nothing was noted
   pub leads_quiet : {seat later : SeatFacts Change Origin} {before after : ShownTree} (more : List Heard)
-      → IsLater seat later → Listens told version before after more → AreReadingsAndLooks roots more
-      → LeadsInSettling told version roots seat before later after missed missed
+      → IsLater seat later → Listens told version before after more → AreReadingsAndLooks (is_in_scope scope) more
+      → LeadsInSettling told version scope seat before later after missed missed
   leads_quiet {seat} {later} {before} {after} more on listens asks = record {
     later = on;
     more = more;
@@ -62,20 +63,20 @@ module _ {told : Bool} {version : Versions} {roots : List (List ℕ)} {missed : 
 
   -- the token alone went on
   pub leads_later : {seat later : SeatFacts Change Origin} {hand : ShownTree} → IsLater seat later
-      → LeadsInSettling told version roots seat hand later hand missed missed
+      → LeadsInSettling told version scope seat hand later hand missed missed
   leads_later on = leads_quiet [] on listens_none readings_none
 
   -- nothing was done
   pub leads_none : {seat : SeatFacts Change Origin} {hand : ShownTree}
-      → LeadsInSettling told version roots seat hand seat hand missed missed
+      → LeadsInSettling told version scope seat hand seat hand missed missed
   leads_none {seat} = leads_later (later_self seat)
 
   -- a miss may have been noted
   pub leads_by : {seat later : SeatFacts Change Origin} {before after : ShownTree} {last : List Miss} (miss : Miss)
-      (more : List Heard) → IsLater seat later → Listens told version before after more → AreReadingsAndLooks roots more
+      (more : List Heard) → IsLater seat later → Listens told version before after more → AreReadingsAndLooks (is_in_scope scope) more
       → MayNote miss missed last
       → IsMetByHand seat.seen later.seen more (Rose before.faults after.faults) miss.name miss.cause
-      → LeadsInSettling told version roots seat before later after missed last
+      → LeadsInSettling told version scope seat before later after missed last
   leads_by {seat} {later} {before} {after} {last} miss more on listens asks noted why = record {
     later = on;
     more = more;
@@ -98,11 +99,11 @@ module _ {told : Bool} {version : Versions} {roots : List (List ℕ)} {missed : 
           (All-cons Noted miss [] (inr why) (All-nil Noted)))
 
 -- one after the other
-pub leads_then : {told : Bool} {version : Versions} {roots : List (List ℕ)} {seat between later : SeatFacts Change Origin}
+pub leads_then : {told : Bool} {version : Versions} {scope : Scope} {seat between later : SeatFacts Change Origin}
     {before mid after : ShownTree} {missed some last : List Miss}
-    → LeadsInSettling told version roots seat before between mid missed some → LeadsInSettling told version roots between mid later after some last
-    → LeadsInSettling told version roots seat before later after missed last
-leads_then {told} {version} {roots} {seat} {between} {later} {before} {mid} {after} {missed} {some} {last} p q = record {
+    → LeadsInSettling told version scope seat before between mid missed some → LeadsInSettling told version scope between mid later after some last
+    → LeadsInSettling told version scope seat before later after missed last
+leads_then {told} {version} {scope} {seat} {between} {later} {before} {mid} {after} {missed} {some} {last} p q = record {
   later = later_trans p.later q.later;
   more = p.more ++ q.more;
   listens = listens_then p.listens q.listens;

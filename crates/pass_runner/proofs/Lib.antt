@@ -15,6 +15,7 @@ pub mod CrewHands
 pub mod PassEnds
 pub mod PassHands
 pub mod PassWalks
+pub mod ScopeLemmas
 pub mod Weighed
 pub mod FullAnswers
 pub mod Loads

@@ -21,7 +21,7 @@ use Rattle.tree_trait.specs.Heard.{Heard, load, stat, read_dir, open_file, read_
 use Rattle.tree_trait.specs.Listens.{heard_or_none}
 use Rattle.tree_trait.specs.Open.{OpenFacts}
 use Rattle.pass_runner.specs.Settled.{is_load_of, times_loaded, times_named}
-use Rattle.pass_runner.specs.Turns.{IsLookUnder}
+use Rattle.pass_runner.specs.Turns.{IsLookAmong}
 
 -- one name more
 pub times_cons : (name : NameFacts) (names : List NameFacts) (path : List ℕ)
@@ -75,20 +75,20 @@ loads_heard name answer reads own path =
     omega (arith, both, one, none)
 
 -- a look loads nothing
-look_loads : (roots : List (List ℕ)) (h : Heard) (path : List ℕ) → IsLookUnder roots h → is_load_of path h ≡ false
-look_loads roots (stat asked answer) path is = refl
-look_loads roots (load asked limit answer) path is = absurd is
-look_loads roots (read_dir asked answer) path is = absurd is
-look_loads roots (open_file asked limit answer) path is = absurd is
-look_loads roots (read_at name at answer) path is = absurd is
+look_loads : (looks : List ℕ → Bool) (h : Heard) (path : List ℕ) → IsLookAmong looks h → is_load_of path h ≡ false
+look_loads looks (stat asked answer) path is = refl
+look_loads looks (load asked limit answer) path is = absurd is
+look_loads looks (read_dir asked answer) path is = absurd is
+look_loads looks (open_file asked limit answer) path is = absurd is
+look_loads looks (read_at name at answer) path is = absurd is
 
-pub loads_looks : (roots : List (List ℕ)) (answers : List Heard) (path : List ℕ) → All (IsLookUnder roots) answers
+pub loads_looks : (looks : List ℕ → Bool) (answers : List Heard) (path : List ℕ) → All (IsLookAmong looks) answers
     → times_loaded answers path ≡ 0
-loads_looks roots [] path all = refl
-loads_looks roots (h ∷ rest) path all =
+loads_looks looks [] path all = refl
+loads_looks looks (h ∷ rest) path all =
     let whole = sum_by-cons (λ (x : Heard). cond (is_load_of path x) 1 0) h rest in
-    let here = ap {B = ℕ} (λ (b : Bool). cond b 1 0) (look_loads roots h path (All-head (IsLookUnder roots) h rest all)) in
-    let later = loads_looks roots rest path (All-tail (IsLookUnder roots) h rest all) in
+    let here = ap {B = ℕ} (λ (b : Bool). cond b 1 0) (look_loads looks h path (All-head (IsLookAmong looks) h rest all)) in
+    let later = loads_looks looks rest path (All-tail (IsLookAmong looks) h rest all) in
     omega (arith, whole, here, later)
 
 -- some of the names

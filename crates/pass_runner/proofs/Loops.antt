@@ -7,11 +7,12 @@ use Rattle.row_types.specs.Faults.{HasCause}
 use Rattle.row_types.specs.Name.{NameFacts}
 use Rattle.row_types.specs.Row.{RowFacts}
 use Rattle.index_keeper.specs.Keeper.{ShownKeeper}
-use Rattle.scan_queue.specs.Names.{is_in, without}
+use Rattle.scan_queue.specs.Names.{is_in, is_path_in, without}
 use Rattle.scan_queue.specs.Pass.{AddsElement, IsPass, PassFacts}
 use Rattle.index_state.specs.Away.{GroomsNext}
 use Rattle.index_state.specs.Invariant.{IndexInvariant}
-use Rattle.index_state.specs.Judge.{is_name_kept, is_under}
+use Rattle.index_state.specs.Judge.{is_name_kept}
+use Rattle.index_state.specs.Marks.{is_marked}
 use Rattle.index_state.specs.State.{StateFacts, pass_or_none}
 use Rattle.index_state.specs.Step.{TakesNextName}
 use Rattle.index_state.specs.declared.answer.GroomTask.{GroomTask}
@@ -63,9 +64,10 @@ module _ {K : Type 0} {old mid : StateFacts K} where
       ap (λ (o : Option PassFacts). is_in (pass_or_none o).out task.name) takes.taken.is
       ∙ is_out task.name takes.taken.from.out takes.taken.into.out takes.taken.step.out
 
-  pub groomed_under : {task : GroomTask} → GroomsNext old (Some task) mid → task.under ≡ is_under mid.roots task.name.path
+  pub groomed_under : {task : GroomTask} → GroomsNext old (Some task) mid → task.under ≡ is_marked mid.pass task.name.path
   groomed_under {task} takes =
-      takes.taken.under ∙ ap (λ (s : StateFacts K). is_under s.roots task.name.path) (sym takes.same)
+      takes.taken.under ∙ ap (λ (p : PassFacts). is_path_in p.marked task.name.path) (sym takes.taken.step.same)
+      ∙ ap (λ (o : Option PassFacts). is_marked o task.name.path) (sym takes.taken.is)
 
   -- and is to be read no more
   took_todo : {name : NameFacts} → TakesNextName old (Some name) mid → (path : List ℕ)
@@ -119,6 +121,7 @@ module _ {K : Type 0} {told : Bool} {version : Versions} {shows : K → ShownKee
       settles_by listens_none (All-nil (Wants old)) readings_none
       (unaltered_none (pass_or_none old.pass).listing mid)
       (pass_on (subst (λ (o : Option PassFacts). IsPassOn old.pass o) (sym takes.taken.same) opened)
+      (ap (λ (o : Option PassFacts). (pass_or_none o).marked) takes.taken.same)
       (ap (λ (o : Option PassFacts). (pass_or_none o).missed) takes.taken.same) (same_todo takes.taken.same) takes.same)
   takes_on {old = old} {mid = mid} (Some name) opened takes =
       settles_by listens_none (All-nil (Wants old)) readings_none
@@ -130,6 +133,9 @@ module _ {K : Type 0} {told : Bool} {version : Versions} {shows : K → ShownKee
         is = takes.taken.is;
         over = ap (λ (p : PassFacts). p.listing) takes.taken.step.same;
       })
+      (ap (λ (o : Option PassFacts). (pass_or_none o).marked) takes.taken.is
+      ∙ ap (λ (p : PassFacts). p.marked) takes.taken.step.same
+      ∙ ap (λ (o : Option PassFacts). (pass_or_none o).marked) (sym takes.taken.was))
       (ap (λ (o : Option PassFacts). (pass_or_none o).missed) takes.taken.is
       ∙ ap (λ (p : PassFacts). p.missed) takes.taken.step.same
       ∙ ap (λ (o : Option PassFacts). (pass_or_none o).missed) (sym takes.taken.was)) (λ path. let e = took_todo takes path in omega (arith, e)) takes.same)
@@ -140,6 +146,7 @@ module _ {K : Type 0} {told : Bool} {version : Versions} {shows : K → ShownKee
       settles_by listens_none (All-nil (Wants old)) readings_none
       (unaltered_none (pass_or_none old.pass).listing mid)
       (pass_on (subst (λ (o : Option PassFacts). IsPassOn old.pass o) (sym takes.taken.same) opened)
+      (ap (λ (o : Option PassFacts). (pass_or_none o).marked) takes.taken.same)
       (ap (λ (o : Option PassFacts). (pass_or_none o).missed) takes.taken.same) (same_todo takes.taken.same) takes.same)
   grooms_on {old = old} {mid = mid} (Some task) opened takes =
       settles_by listens_none (All-nil (Wants old)) readings_none
@@ -151,6 +158,9 @@ module _ {K : Type 0} {told : Bool} {version : Versions} {shows : K → ShownKee
         is = takes.taken.is;
         over = ap (λ (p : PassFacts). p.listing) takes.taken.step.same;
       })
+      (ap (λ (o : Option PassFacts). (pass_or_none o).marked) takes.taken.is
+      ∙ ap (λ (p : PassFacts). p.marked) takes.taken.step.same
+      ∙ ap (λ (o : Option PassFacts). (pass_or_none o).marked) (sym takes.taken.was))
       (ap (λ (o : Option PassFacts). (pass_or_none o).missed) takes.taken.is
       ∙ ap (λ (p : PassFacts). p.missed) takes.taken.step.same
       ∙ ap (λ (o : Option PassFacts). (pass_or_none o).missed) (sym takes.taken.was)) (same_names (groomed_todo takes)) takes.same)

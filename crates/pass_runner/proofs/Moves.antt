@@ -1,5 +1,5 @@
 -- What the hand heard and where the index went, one after the other.
-use Rattle.std.proofs.Common.{◌≡◌, ℕ, ◌≤◌, inl, inr, true, false, List, ◌++◌, Option, Some, refl, sym, ◌∙◌, ap, subst, arith}
+use Rattle.std.proofs.Common.{◌≡◌, ℕ, ◌≤◌, inl, inr, Bool, true, false, List, ◌++◌, Option, Some, refl, sym, ◌∙◌, ap, subst, arith}
 use Rattle.std.specs.List.{All, Contains}
 use Rattle.std.proofs.lemmas.Bool.{true≢false}
 use Rattle.std.proofs.lemmas.List.Elements.{All-contains, All-contains_itself, All-weaker, Contains-append_left, Contains-append_right}
@@ -9,8 +9,9 @@ use Rattle.row_types.specs.Row.{RowFacts}
 use Rattle.index_keeper.specs.Keeper.{ShownKeeper}
 use Rattle.index_rows.specs.Rows.{row_names}
 use Rattle.index_state.specs.Bound.{StaysBounded}
+use Rattle.index_state.specs.Marks.{is_marked}
 use Rattle.index_state.specs.State.{StateFacts, pass_or_none}
-use Rattle.scan_queue.specs.Names.{is_in}
+use Rattle.scan_queue.specs.Names.{is_in, is_path_in}
 use Rattle.scan_queue.specs.Pass.{PassFacts}
 use Rattle.scan_queue.specs.declared.miss.Cause.{Cause}
 use Rattle.scan_queue.specs.declared.miss.Cause.TheVariants.{ReadFault, Altered, Appeared}
@@ -79,7 +80,7 @@ module _ (some more : List Heard) {Failed Fails : Type 0} (among : (h : Heard) �
   advances_as {old = old} {new = new} on = record {
     keeper = on.keeper;
     pass = on.pass;
-    roots = on.roots;
+    marked = on.marked;
     origin = on.origin;
     moves = record {
       stays = on.moves.stays;
@@ -109,10 +110,10 @@ still_brought rows answers =
     All-weaker (Contains rows) (IsBrought rows answers) (λ row before. inl before) rows (All-contains_itself rows)
 
 -- the rows are those that were there before
-pub moves_same : {listing : List NameFacts} {roots : List (List ℕ)} {answers : List Heard} {old new : List RowFacts} → new ≡ old
-    → MovesRows listing roots answers old new
-moves_same {listing} {roots} {answers} {old} {new} same =
-    subst (λ (rows : List RowFacts). MovesRows listing roots answers old rows) (sym same) (record {
+pub moves_same : {listing : List NameFacts} {looks : List ℕ → Bool} {answers : List Heard} {old new : List RowFacts} → new ≡ old
+    → MovesRows listing looks answers old new
+moves_same {listing} {looks} {answers} {old} {new} same =
+    subst (λ (rows : List RowFacts). MovesRows listing looks answers old rows) (sym same) (record {
       stays = λ name listed there. there;
       goes = λ name there gone none under. absurd (true≢false (sym there ∙ gone));
       comes = λ name there fresh. absurd (true≢false (sym there ∙ fresh));
@@ -120,9 +121,9 @@ moves_same {listing} {roots} {answers} {old} {new} same =
     })
 
 -- rows that moved once and again
-moves_then : {listing : List NameFacts} {roots : List (List ℕ)} {answers : List Heard} {old mid new : List RowFacts}
-    → MovesRows listing roots answers old mid → MovesRows listing roots answers mid new → MovesRows listing roots answers old new
-moves_then {listing} {roots} {answers} {old} {mid} {new} p q =
+moves_then : {listing : List NameFacts} {looks : List ℕ → Bool} {answers : List Heard} {old mid new : List RowFacts}
+    → MovesRows listing looks answers old mid → MovesRows listing looks answers mid new → MovesRows listing looks answers old new
+moves_then {listing} {looks} {answers} {old} {mid} {new} p q =
     record {
       stays = λ name listed there. q.stays name listed (p.stays name listed there);
       goes = λ name there gone none under.
@@ -169,12 +170,12 @@ advances_then {K} {shows} {xs} {ys} {First} {Second} {Failed} {old} {mid} {new} 
     record {
       keeper = omega (arith, p.keeper, q.keeper);
       pass = pass_then p.pass q.pass;
-      roots = q.roots ∙ p.roots;
+      marked = q.marked ∙ p.marked;
       origin = q.origin ∙ p.origin;
       moves =
           moves_then a.moves
-          (subst (λ (l : List NameFacts). MovesRows l old.roots (xs ++ ys) mid.rows new.rows) listing
-          (subst (λ (r : List (List ℕ)). MovesRows (pass_or_none mid.pass).listing r (xs ++ ys) mid.rows new.rows) p.roots b.moves));
+          (subst (λ (l : List NameFacts). MovesRows l (is_marked old.pass) (xs ++ ys) mid.rows new.rows) listing
+          (subst (λ (l : List NameFacts). MovesRows (pass_or_none mid.pass).listing (is_path_in l) (xs ++ ys) mid.rows new.rows) p.marked b.moves));
       missed =
           All-weaker (Later (pass_or_none old.pass).listing) (Sooner (pass_or_none old.pass).listing) (λ m why. before m why)
           (pass_or_none new.pass).missed

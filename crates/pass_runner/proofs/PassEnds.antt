@@ -4,6 +4,7 @@ use Rattle.std.specs.List.{All}
 use Rattle.std.specs.Prelude.{IfSome}
 use Rattle.std.proofs.lemmas.Bool.{true≢false}
 use Rattle.std.proofs.lemmas.List.Elements.{All-head, All-weaker}
+use Rattle.path_scope.specs.Scope.{Scope}
 use Rattle.row_types.specs.Faults.{Rose}
 use Rattle.row_types.specs.Name.{NameFacts}
 use Rattle.row_types.specs.Rules.{Rules}
@@ -18,7 +19,7 @@ use Rattle.index_state.specs.declared.answer.Plan.{Plan}
 use Rattle.index_state.specs.declared.answer.Standing.{Standing}
 use Rattle.index_lock.proofs.Prefixes.{prefix_self}
 use Rattle.index_state.proofs.Keeps.{there}
-use Rattle.scan_queue.specs.Pass.{PassFacts, begun, first_missed}
+use Rattle.scan_queue.specs.Pass.{PassFacts, first_missed}
 use Rattle.scan_queue.specs.declared.miss.Cause.{Cause}
 use Rattle.scan_queue.specs.declared.miss.Cause.TheVariants.{ReadFault, Altered, Appeared}
 use Rattle.scan_queue.specs.declared.miss.Miss.{Miss}
@@ -38,11 +39,13 @@ use Rattle.pass_runner.specs.declared.summary.Summary.{Summary}
 use Rattle.pass_runner.proofs.Appearing.{none_of_none}
 use Rattle.pass_runner.proofs.Moves.{same_listing}
 
-module _ {K : Type 0} {listing : List NameFacts} {roots : List (List ℕ)} {plan : Plan} {old mid : StateFacts K} (begins : BeginsPass listing roots plan old mid) where
-  fresh_begun : IsFresh (after_begin listing roots old)
+module _ {K : Type 0} {listing : List NameFacts} {scope : Scope} {plan : Plan} {old mid : StateFacts K} (begins : BeginsPass listing scope plan old mid) where
+  fresh_begun : IsFresh (after_begin listing scope old)
   fresh_begun = record {
     sound = begins.sound;
-    is_open = record { from = begun listing (row_names old.rows); into = begun listing (row_names old.rows); was = refl; is = refl; over = refl };
+    is_open =
+        let pass : PassFacts = pass_or_none (after_begin listing scope old).pass in
+        record { from = pass; into = pass; was = refl; is = refl; over = refl };
     out = refl;
     missed = refl;
   }
@@ -52,8 +55,8 @@ module _ {K : Type 0} {listing : List NameFacts} {roots : List (List ℕ)} {plan
   fresh_after = subst (λ (s : StateFacts K). IsFresh s) (sym begins.after) fresh_begun
 
 -- what is open as the pass begins is no more than what its plan allows
-pub planned_open : {K : Type 0} {listing : List NameFacts} {roots : List (List ℕ)} {plan : Plan} {old mid : StateFacts K}
-    → BeginsPass listing roots plan old mid
+pub planned_open : {K : Type 0} {listing : List NameFacts} {scope : Scope} {plan : Plan} {old mid : StateFacts K}
+    → BeginsPass listing scope plan old mid
     → still_open listing (row_names old.rows) ≤ most_changes (plan_of listing (row_names old.rows))
 planned_open {listing = listing} {old = old} begins =
     subst (λ (p : Plan). still_open listing (row_names old.rows) ≤ most_changes p) begins.planned begins.allowed
@@ -72,21 +75,21 @@ helped_alone listing state few = record {
 
 -- of a pass that was begun over a listing, with one hand
 pub over_begun : {K T : Type 0} (world : Rules) (told tells : Bool) (shows : K → ShownKeeper) (sees : T → ShownTree)
-    {listing : List NameFacts} {roots : List (List ℕ)} (before after : T) {plan : Plan} {old mid : StateFacts K} (new : StateFacts K)
-    (end : PassEnd) → BeginsPass listing roots plan old mid
+    {listing : List NameFacts} {scope : Scope} (before after : T) {plan : Plan} {old mid : StateFacts K} (new : StateFacts K)
+    (end : PassEnd) → BeginsPass listing scope plan old mid
     → EndsBegun world told tells shows plan (sees before) (sees after) mid new end
-    → EndsOver world told tells shows sees 1 listing roots before after old new end
-over_begun {K} {T} world told tells shows sees {listing} {roots} before after {plan} {old} {mid} new end begins ends =
+    → EndsOver world told tells shows sees 1 listing scope before after old new end
+over_begun {K} {T} world told tells shows sees {listing} {scope} before after {plan} {old} {mid} new end begins ends =
     each end (record {
       found = old;
       helped = helped_alone listing old (planned_open begins);
-      begun = subst (λ (p : Plan). EndsBegun world told tells shows p (sees before) (sees after) (after_begin listing roots old) new end)
+      begun = subst (λ (p : Plan). EndsBegun world told tells shows p (sees before) (sees after) (after_begin listing scope old) new end)
           begins.planned
           (subst (λ (s : StateFacts K). EndsBegun world told tells shows plan (sees before) (sees after) s new end) begins.after ends);
     })
   where
-    each : (e : PassEnd) → EndsFound world told tells shows 1 listing roots (sees before) (sees after) old new e
-        → EndsOver world told tells shows sees 1 listing roots before after old new e
+    each : (e : PassEnd) → EndsFound world told tells shows 1 listing scope (sees before) (sees after) old new e
+        → EndsOver world told tells shows sees 1 listing scope before after old new e
     each OutOfMemory h = inr (inl h)
     each (Whole summary) h = h
     each (Missed miss) h = h
@@ -97,15 +100,15 @@ over_begun {K} {T} world told tells shows sees {listing} {roots} before after {p
 
 -- of a pass that was begun again over a listing
 pub again_begun : {K T : Type 0} (world : Rules) (told tells : Bool) (shows : K → ShownKeeper) (sees : T → ShownTree) (told_plan : Plan)
-    {listing : List NameFacts} {roots : List (List ℕ)} (before after : T) {plan : Plan} {old mid : StateFacts K} (new : StateFacts K)
-    (end : PassEnd) → BeginsPass listing roots plan old mid
+    {listing : List NameFacts} {scope : Scope} (before after : T) {plan : Plan} {old mid : StateFacts K} (new : StateFacts K)
+    (end : PassEnd) → BeginsPass listing scope plan old mid
     → EndsBegun world told tells shows told_plan (sees before) (sees after) mid new end
-    → EndsAgain world told tells shows sees told_plan listing roots before after old new end
-again_begun {K} {T} world told tells shows sees told_plan {listing} {roots} before after {plan} {old} {mid} new end begins ends =
+    → EndsAgain world told tells shows sees told_plan listing scope before after old new end
+again_begun {K} {T} world told tells shows sees told_plan {listing} {scope} before after {plan} {old} {mid} new end begins ends =
     each end (subst (λ (s : StateFacts K). EndsBegun world told tells shows told_plan (sees before) (sees after) s new end) begins.after ends)
   where
-    each : (e : PassEnd) → EndsBegun world told tells shows told_plan (sees before) (sees after) (after_begin listing roots old) new e
-        → EndsAgain world told tells shows sees told_plan listing roots before after old new e
+    each : (e : PassEnd) → EndsBegun world told tells shows told_plan (sees before) (sees after) (after_begin listing scope old) new e
+        → EndsAgain world told tells shows sees told_plan listing scope before after old new e
     each OutOfMemory h = inl h
     each (Whole summary) h = h
     each (Missed miss) h = h
@@ -236,15 +239,15 @@ whole_done {K} world tells shows {state} {plan} {summary} {standing} handed firs
 
 -- a pass over a listing doesn't end as a walk does
 pub over_walked : {K T : Type 0} (world : Rules) (told tells : Bool) (shows : K → ShownKeeper) (sees : T → ShownTree) (hands : ℕ)
-    (listing : List NameFacts) (roots : List (List ℕ)) (before after : T) (old new : StateFacts K) (end : PassEnd)
-    → EndsOver world told tells shows sees hands listing roots before after old new end → IsTrue (is_unwalked end) → ⊥
-over_walked world told tells shows sees hands listing roots before after old new (Walk fault) h f = h.begun
-over_walked world told tells shows sees hands listing roots before after old new (Whole summary) h f = true≢false (sym f)
-over_walked world told tells shows sees hands listing roots before after old new (Missed miss) h f = true≢false (sym f)
-over_walked world told tells shows sees hands listing roots before after old new Broken h f = true≢false (sym f)
-over_walked world told tells shows sees hands listing roots before after old new KeeperFault h f = true≢false (sym f)
-over_walked world told tells shows sees hands listing roots before after old new LogFull h f = true≢false (sym f)
-over_walked world told tells shows sees hands listing roots before after old new OutOfMemory h f = true≢false (sym f)
+    (listing : List NameFacts) (scope : Scope) (before after : T) (old new : StateFacts K) (end : PassEnd)
+    → EndsOver world told tells shows sees hands listing scope before after old new end → IsTrue (is_unwalked end) → ⊥
+over_walked world told tells shows sees hands listing scope before after old new (Walk fault) h f = h.begun
+over_walked world told tells shows sees hands listing scope before after old new (Whole summary) h f = true≢false (sym f)
+over_walked world told tells shows sees hands listing scope before after old new (Missed miss) h f = true≢false (sym f)
+over_walked world told tells shows sees hands listing scope before after old new Broken h f = true≢false (sym f)
+over_walked world told tells shows sees hands listing scope before after old new KeeperFault h f = true≢false (sym f)
+over_walked world told tells shows sees hands listing scope before after old new LogFull h f = true≢false (sym f)
+over_walked world told tells shows sees hands listing scope before after old new OutOfMemory h f = true≢false (sym f)
 
 -- a count that rose is above 0
 pub rose_counted : (a b : ℕ) → Rose a b → 0 < b

@@ -2,6 +2,7 @@
 use Rattle.std.proofs.Common.{◌≡◌, ℕ, inl, inr, Bool, true, false, List, [], Option, refl, sym, ◌∙◌, ap, subst, arith, Ok}
 use Rattle.std.specs.List.{All, filter}
 use Rattle.std.proofs.lemmas.List.Elements.{All-append, All-nil, All-weaker}
+use Rattle.path_scope.specs.Scope.{Scope, is_in_scope}
 use Rattle.row_types.specs.Faults.{Rose}
 use Rattle.row_types.specs.Name.{NameFacts}
 use Rattle.row_types.specs.Rules.{Rules}
@@ -39,6 +40,7 @@ use Rattle.tree_trait.proofs.ListenLemmas.{lists_all, lists_both, listens_none}
 use Rattle.pass_runner.proofs.Moves.{same_listing}
 use Rattle.pass_runner.proofs.PassEnds.{all_backed, first_is}
 use Rattle.pass_runner.proofs.PassHands.{rose_later}
+use Rattle.pass_runner.proofs.ScopeLemmas.{asked_in, moves_in, readings_in}
 
 backed_so : (listing names : List NameFacts) (answers : List Heard) {Failed Fails : Type 0} → (Failed → Fails)
     → (name : NameFacts) (cause : Cause) → IsBacked listing names answers Failed name cause
@@ -47,20 +49,20 @@ backed_so listing names answers so name ReadFault h = so h
 backed_so listing names answers so name (Altered met) h = h
 backed_so listing names answers so name Appeared h = h
 
-module _ (world : Rules) {told : Bool} {roots : List (List ℕ)} {before met after : ShownTree} {walk : WalkFacts}
-    {Asked Fails : Type 0} (walks : WalksTree told before met roots (Ok walk))
-    (under : TellsStill told before → AreFilesUnder before.present roots walk.listing)
+module _ (world : Rules) {told : Bool} {scope : Scope} {before met after : ShownTree} {walk : WalkFacts}
+    {Asked Fails : Type 0} (walks : WalksTree told before met scope (Ok walk))
+    (under : TellsStill told before → AreFilesUnder before.present scope walk.listing)
     (hands : HandsOn told world.version before met Asked Fails) where
   -- what the hand heard, of the walk and of what followed it
   pub hears_walked : (Wanted : Heard → Type 0) → ((path : List ℕ) (answer : DirFacts) → Wanted (read_dir path answer) → ⊥)
       → (more : List Heard) → Listens told world.version met after more → All Wanted more
-      → HearsWalked told world.version roots walk walks.goes.more more before after
+      → HearsWalked told world.version scope walk walks.goes.more more before after
   hears_walked Wanted never more listens wanted = record {
     heard = lists_both before.heard met.heard after.heard walks.goes.more more (lists_all walks.goes.heard) listens.heard;
     whole = walks.goes.ends;
-    full = full_stays roots Wanted never walks.goes.more more wanted walks.goes.ends.full;
+    full = full_stays scope Wanted never walks.goes.more more wanted walks.goes.ends.full;
     listing =
-        listing_stays roots Wanted never walks.goes.more more wanted walks.goes.ends.full walk.listing walks.goes.ends.listing;
+        listing_stays scope Wanted never walks.goes.more more wanted walks.goes.ends.full walk.listing walks.goes.ends.listing;
     fits = listens.fits;
     tells = λ t.
         All-append (IsAnswerTold before.present) walks.goes.more more (walks.goes.tells t.0 t.1)
@@ -70,16 +72,20 @@ module _ (world : Rules) {told : Bool} {roots : List (List ℕ)} {before met aft
   }
 
   module _ {K : Type 0} (hands_given : ℕ) (old found : StateFacts K) {shows : K → ShownKeeper} {new : StateFacts K}
-      (settles : Settles told world.version shows met after (after_begin walk.listing roots found) new)
+      (settles : Settles told world.version shows met after (after_begin walk.listing scope found) new)
       (helped : IsHelped hands_given walk.listing old found) where
+    -- what was asked of a marked path was asked of one in the scope
+    wanted_pass : All (MayBeAsked walk.listing (is_in_scope scope) (row_names found.rows)) settles.does.answers
+    wanted_pass = asked_in scope walk.listing (row_names found.rows) settles.does.answers settles.does.wanted
+
     -- what the hand heard, of the walk and of the settling
-    heard_pass : HearsPass told world.version roots (row_names found.rows) walk walks.goes.more settles.does.answers before after
+    heard_pass : HearsPass told world.version scope (row_names found.rows) walk walks.goes.more settles.does.answers before after
     heard_pass = record {
       walks =
-          hears_walked (MayBeAsked walk.listing roots (row_names found.rows)) (λ path answer never. never) settles.does.answers
-          settles.does.listens settles.does.wanted;
-      wanted = settles.does.wanted;
-      parts = settles.does.parts;
+          hears_walked (MayBeAsked walk.listing (is_in_scope scope) (row_names found.rows)) (λ path answer never. never) settles.does.answers
+          settles.does.listens wanted_pass;
+      wanted = wanted_pass;
+      parts = readings_in scope walk.listing (row_names found.rows) settles.does.parts;
       once = settles.once;
     }
 
@@ -97,15 +103,15 @@ module _ (world : Rules) {told : Bool} {roots : List (List ℕ)} {before met aft
         (all_backed refl settles)
 
     -- what it left of the index
-    left_index : LeavesIndex roots walk.listing settles.does.answers (Rose before.faults after.faults) found new
+    left_index : LeavesIndex scope walk.listing settles.does.answers (Rose before.faults after.faults) found new
     left_index = record {
       pass = settles.does.on.pass.into;
       is_open = settles.does.on.pass.is;
       over = sym (ap (λ (o : Option PassFacts). (pass_or_none o).listing) settles.does.on.pass.is) ∙ same_listing settles.does.on.pass;
-      roots = settles.does.on.roots;
+      marked = sym (ap (λ (o : Option PassFacts). (pass_or_none o).marked) settles.does.on.pass.is) ∙ settles.does.on.marked;
       origin = settles.does.on.origin;
       bounded = settles.does.on.bounded;
-      moves = settles.does.on.moves;
+      moves = moves_in scope walk.listing walks.goes.ends.listing.by_path settles.does.on.moves;
       missed =
           subst (λ (o : Option PassFacts). All (Backed (Rose before.faults after.faults)) (pass_or_none o).missed)
           settles.does.on.pass.is backed_new;
@@ -113,7 +119,7 @@ module _ (world : Rules) {told : Bool} {roots : List (List ℕ)} {before met aft
 
     -- and both, with the end
     pub runs_pass : (Ends : StateFacts K → List Heard → Type 0) → Ends found settles.does.answers
-        → RunsPass world told hands_given roots walk.listing before after old new Ends
+        → RunsPass world told hands_given scope walk.listing before after old new Ends
     runs_pass Ends ends = record {
       walk = walk;
       over = refl;
@@ -147,28 +153,28 @@ module _ (world : Rules) {told : Bool} {roots : List (List ℕ)} {before met aft
 
 -- the pass whose listing was walked
 pub ends_walked : {K T : Type 0} (world : Rules) (told tells : Bool) (shows : K → ShownKeeper) (sees : T → ShownTree)
-    (count : ℕ) (roots : List (List ℕ)) (before met after : T) (old new : StateFacts K) (walk : WalkFacts) {Asked Fails : Type 0}
-    (end : PassEnd) → WalksTree told (sees before) (sees met) roots (Ok walk)
-    → (TellsStill told (sees before) → AreFilesUnder (sees before).present roots walk.listing)
+    (count : ℕ) (scope : Scope) (before met after : T) (old new : StateFacts K) (walk : WalkFacts) {Asked Fails : Type 0}
+    (end : PassEnd) → WalksTree told (sees before) (sees met) scope (Ok walk)
+    → (TellsStill told (sees before) → AreFilesUnder (sees before).present scope walk.listing)
     → HandsOn told world.version (sees before) (sees met) Asked Fails
-    → EndsOver world told tells shows sees count walk.listing roots met after old new end
-    → EndsPass world told tells shows count roots walk.listing (sees before) (sees after) old new end
-ends_walked {K} {T} world told tells shows sees count roots before met after old new walk {Asked} {Fails} end walks under hands = by end
+    → EndsOver world told tells shows sees count walk.listing scope met after old new end
+    → EndsPass world told tells shows count scope walk.listing (sees before) (sees after) old new end
+ends_walked {K} {T} world told tells shows sees count scope before met after old new walk {Asked} {Fails} end walks under hands = by end
   where
     -- the other hands helped alone
     left : (Ends : Type 0) → LeavesToHands count walk.listing met after old new Ends
-        → EndsPassHelped told count roots walk.listing (sees before) (sees after) old new Ends
+        → EndsPassHelped told count scope walk.listing (sees before) (sees after) old new Ends
     left Ends h = record {
       walk = walk;
       over = refl;
-      walks = subst (λ (t : T). WalksTree told (sees before) (sees t) roots (Ok walk)) (sym h.hand) walks;
+      walks = subst (λ (t : T). WalksTree told (sees before) (sees t) scope (Ok walk)) (sym h.hand) walks;
       helped = h.helped;
       bounded = omega (arith, h.helped.allowed, h.helped.bounded);
       ends = h.ends;
     }
 
-    by : (e : PassEnd) → EndsOver world told tells shows sees count walk.listing roots met after old new e
-        → EndsPass world told tells shows count roots walk.listing (sees before) (sees after) old new e
+    by : (e : PassEnd) → EndsOver world told tells shows sees count walk.listing scope met after old new e
+        → EndsPass world told tells shows count scope walk.listing (sees before) (sees after) old new e
     by (Whole summary) h =
         runs_pass world walks under hands count old h.found h.begun.settles h.helped
         (λ found more. IsWholePass world tells shows (plan_of walk.listing (row_names old.rows)) summary new walk.listing) h.begun.ends
@@ -183,7 +189,7 @@ ends_walked {K} {T} world told tells shows sees count roots before met after old
     by OutOfMemory (inl early) = inl (record {
       walk = walk;
       over = refl;
-      walks = subst (λ (t : T). WalksTree told (sees before) (sees t) roots (Ok walk)) (sym early.hand) walks;
+      walks = subst (λ (t : T). WalksTree told (sees before) (sees t) scope (Ok walk)) (sym early.hand) walks;
       same = early.state;
     })
     by OutOfMemory (inr (inl h)) =

@@ -1,9 +1,10 @@
 -- How a pass ends by its last hold, and by the plan of its first.
-use Rattle.std.proofs.Common.{◌≡◌, ℕ, ◌+◌, ◌<◌, inl, inr, Bool, List, [], ◌∷◌, ◌++◌, length, sym, ◌∙◌, ap, subst, arith}
+use Rattle.std.proofs.Common.{◌≡◌, ◌+◌, ◌<◌, inl, inr, Bool, List, [], ◌∷◌, ◌++◌, length, sym, ◌∙◌, ap, subst, arith}
 use Rattle.std.specs.List.{Contains}
 use Rattle.std.proofs.lemmas.List.{append-nil, length-append}
-use Rattle.std.proofs.lemmas.List.Elements.{All-contains, All-nil}
+use Rattle.std.proofs.lemmas.List.Elements.{All-contains}
 use mathlib.Core.List.{IsPrefix}
+use Rattle.path_scope.specs.Scope.{Scope}
 use Rattle.row_types.specs.Faults.{Rose}
 use Rattle.row_types.specs.Name.{NameFacts}
 use Rattle.row_types.specs.Rules.{Rules}
@@ -28,12 +29,12 @@ use Rattle.pass_runner.proofs.LeadLemmas.{met_as}
 use Rattle.tree_trait.proofs.ListenLemmas.{listens_none}
 
 -- the settling, and what the last hold shows
-pub settles_last : {told : Bool} (world : Rules) {listing : List NameFacts} {roots : List (List ℕ)} {plan : Plan}
+pub settles_last : {told : Bool} (world : Rules) {listing : List NameFacts} {scope : Scope} {plan : Plan}
     {seat mid : SeatFacts Change Origin} (log : List Change) {before after : ShownTree} {met : List Miss}
-    → LeadsInSettling told world.version roots seat before mid after [] met → IsPrefix mid.seen log → (end : PassEnd)
-    → LastShows world listing roots plan met log end
-    → SettlesLast world told listing roots plan seat.seen log before after end
-settles_last world {listing} {roots} {plan} {seat} {mid} log {before} {after} {met} led on end shows = record {
+    → LeadsInSettling told world.version scope seat before mid after [] met → IsPrefix mid.seen log → (end : PassEnd)
+    → LastShows world listing scope plan met log end
+    → SettlesLast world told listing scope plan seat.seen log before after end
+settles_last world {listing} {scope} {plan} {seat} {mid} log {before} {after} {met} led on end shows = record {
   more = led.more;
   listens = led.listens;
   asks = led.asks;
@@ -56,8 +57,8 @@ settles_last world {listing} {roots} {plan} {seat} {mid} log {before} {after} {m
             met_as seat.seen mid.seen seat.seen log led.more led.more (prefix_self seat.seen) on (λ h there. there) (λ f. f)
             m.name m.cause why
 
-    by : (e : PassEnd) → LastShows world listing roots plan met log e
-        → EndsPlanned world listing roots plan seat.seen log led.more Failed e
+    by : (e : PassEnd) → LastShows world listing scope plan met log e
+        → EndsPlanned world listing scope plan seat.seen log led.more Failed e
     by (Whole summary) h = h
     by (Missed miss) h =
         record { why = own_met miss h.among; of_pass = h.of_pass; stands = h.stands; sound = h.sound }
@@ -80,12 +81,12 @@ void_since early late p each void = by p.0 p.1
         omega (arith, long, both)
 
 -- the whole pass over a listing, which was planned at its first hold
-pub leads_planned : {told : Bool} (world : Rules) {listing : List NameFacts} {roots : List (List ℕ)} {plan : Plan}
+pub leads_planned : {told : Bool} (world : Rules) {listing : List NameFacts} {scope : Scope} {plan : Plan}
     (brought first mid last : List Change) {before after : ShownTree} (end : PassEnd) → IsPrefix brought first
     → IsPlanned listing plan first → IsPrefix first mid → IsPrefix mid last
-    → SettlesLast world told listing roots plan mid last before after end
-    → LeadsPass world told listing roots brought last before after end
-leads_planned world {listing} {roots} {plan} brought first mid last {before} {after} end front planned help on settled = record {
+    → SettlesLast world told listing scope plan mid last before after end
+    → LeadsPass world told listing scope brought last before after end
+leads_planned world {listing} {scope} {plan} brought first mid last {before} {after} end front planned help on settled = record {
   more = settled.more;
   listens = settled.listens;
   asks = settled.asks;
@@ -101,8 +102,8 @@ leads_planned world {listing} {roots} {plan} brought first mid last {before} {af
     to_last : IsPrefix first last
     to_last = prefix_trans first mid last help on
 
-    by : (e : PassEnd) → EndsPlanned world listing roots plan mid last settled.more Failed e
-        → EndsListed world listing roots brought last settled.more Failed e
+    by : (e : PassEnd) → EndsPlanned world listing scope plan mid last settled.more Failed e
+        → EndsListed world listing scope brought last settled.more Failed e
     by (Whole summary) h =
         let files : summary.files ≡ plan.files = ap (λ (s : Summary). s.files) h.numbers in
         record {
@@ -134,29 +135,29 @@ leads_planned world {listing} {roots} {plan} brought first mid last {before} {af
     by LogFull h = h
     by OutOfMemory h = tt
 
--- where the last hold was over copies of the listing and of the roots
-pub leads_again : {told : Bool} (world : Rules) {listing : List NameFacts} {roots : List (List ℕ)} {plan : Plan}
+-- where the last hold was over copies of the listing and of the scope
+pub leads_again : {told : Bool} (world : Rules) {listing : List NameFacts} {scope : Scope} {plan : Plan}
     (brought first mid last : List Change) {before after : ShownTree} (end : PassEnd) → IsPrefix brought first
     → IsPlanned listing plan first → IsPrefix first mid → IsPrefix mid last → {again : List NameFacts}
-    {roots_again : List (List ℕ)} → again ≡ listing → roots_again ≡ roots
-    → SettlesLast world told again roots_again plan mid last before after end
-    → LeadsPass world told listing roots brought last before after end
-leads_again {told} world {listing} {roots} {plan} brought first mid last {before} {after} end front planned help on {again} {roots_again} same_names same_roots settled =
+    {scope_again : Scope} → again ≡ listing → scope_again ≡ scope
+    → SettlesLast world told again scope_again plan mid last before after end
+    → LeadsPass world told listing scope brought last before after end
+leads_again {told} world {listing} {scope} {plan} brought first mid last {before} {after} end front planned help on {again} {scope_again} same_names same_scope settled =
     leads_planned world brought first mid last end front planned help on
-    (subst (λ (rs : List (List ℕ)). SettlesLast world told listing rs plan mid last before after end) same_roots
-    (subst (λ (ns : List NameFacts). SettlesLast world told ns roots_again plan mid last before after end) same_names settled))
+    (subst (λ (rs : Scope). SettlesLast world told listing rs plan mid last before after end) same_scope
+    (subst (λ (ns : List NameFacts). SettlesLast world told ns scope_again plan mid last before after end) same_names settled))
 
 -- a pass that ended at its first hold, or before it
-pub leads_early : {told : Bool} (world : Rules) (listing : List NameFacts) (roots : List (List ℕ)) (brought log : List Change)
-    {hand : ShownTree} (end : PassEnd) → EndsListed world listing roots brought log [] (Rose hand.faults hand.faults) end
-    → LeadsPass world told listing roots brought log hand hand end
-leads_early world listing roots brought log end ends =
+pub leads_early : {told : Bool} (world : Rules) (listing : List NameFacts) (scope : Scope) (brought log : List Change)
+    {hand : ShownTree} (end : PassEnd) → EndsListed world listing scope brought log [] (Rose hand.faults hand.faults) end
+    → LeadsPass world told listing scope brought log hand hand end
+leads_early world listing scope brought log end ends =
     record { more = []; listens = listens_none; asks = readings_none; ends = ends }
 
 -- a pass that was begun doesn't end as one that could not be
-pub settled_sound : {told : Bool} (world : Rules) {listing : List NameFacts} {roots : List (List ℕ)} {plan : Plan}
+pub settled_sound : {told : Bool} (world : Rules) {listing : List NameFacts} {scope : Scope} {plan : Plan}
     {brought log : List Change} {before after : ShownTree} (end : PassEnd)
-    → SettlesLast world told listing roots plan brought log before after end → end ≡ Broken → ⊥
+    → SettlesLast world told listing scope plan brought log before after end → end ≡ Broken → ⊥
 settled_sound world Broken h is = h.ends
 settled_sound world (Whole summary) h is = cc
 settled_sound world (Missed miss) h is = cc

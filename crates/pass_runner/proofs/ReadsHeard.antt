@@ -14,7 +14,6 @@ use Rattle.tree_trait.specs.Open.{OpenFacts}
 use Rattle.tree_trait.specs.Shown.{ShownTree}
 use Rattle.tree_trait.specs.declared.stat.StatAnswer.{StatAnswer}
 use Rattle.tree_trait.proofs.ListenLemmas.{all_heard, is_heard}
-use Rattle.index_state.specs.Judge.{is_under}
 use Rattle.pass_runner.specs.Helped.{IsSparing}
 use Rattle.pass_runner.specs.Settled.{AreReadingsAndLooks, none_heard, one_file, one_look}
 
@@ -56,28 +55,28 @@ read_spares_all name (open_file path limit answer) own = absurd own
 
 -- ---- files and looks, one behind the other
 
-module _ {roots : List (List ℕ)} where
-  pub readings_none : AreReadingsAndLooks roots []
+module _ {looks : List ℕ → Bool} where
+  pub readings_none : AreReadingsAndLooks looks []
   readings_none = none_heard
 
   -- a listed file
   pub readings_of : {W : Type 0} {told : Bool} {version : Versions} {before after : ShownTree} {given : NameRead W} (name : NameFacts)
-      (does : ReadsName told version name before after given) → AreReadingsAndLooks roots (heard_reading name does.answer does.reads)
+      (does : ReadsName told version name before after given) → AreReadingsAndLooks looks (heard_reading name does.answer does.reads)
   readings_of name does =
       one_file name does.answer does.reads [] (heard_reading name does.answer does.reads)
       (sym (append-nil (heard_reading name does.answer does.reads))) does.own does.parts none_heard
 
   -- a look, where memory for it wasn't refused
-  pub readings_look : (path : List ℕ) (answer : StatAnswer) → is_under roots path ≡ true
-      → AreReadingsAndLooks roots (heard_or_none (stat path answer))
+  pub readings_look : (path : List ℕ) (answer : StatAnswer) → looks path ≡ true
+      → AreReadingsAndLooks looks (heard_or_none (stat path answer))
   readings_look path answer under =
-      elim (wants_memory (stat path answer)) as (λ b. AreReadingsAndLooks roots (if b then [] else stat path answer ∷ [])) [
+      elim (wants_memory (stat path answer)) as (λ b. AreReadingsAndLooks looks (if b then [] else stat path answer ∷ [])) [
         | true ↦ none_heard
         | false ↦ one_look path answer [] (stat path answer ∷ []) under refl none_heard
       ]
 
-  pub readings_both : {xs : List Heard} (ys : List Heard) → AreReadingsAndLooks roots xs → AreReadingsAndLooks roots ys
-      → AreReadingsAndLooks roots (xs ++ ys)
+  pub readings_both : {xs : List Heard} (ys : List Heard) → AreReadingsAndLooks looks xs → AreReadingsAndLooks looks ys
+      → AreReadingsAndLooks looks (xs ++ ys)
   readings_both ys none_heard q = q
   readings_both ys (one_look path answer more all under is rest) q =
       one_look path answer (more ++ ys) (all ++ ys) under (ap (λ (heard : List Heard). heard ++ ys) is) (readings_both ys rest q)
@@ -87,7 +86,7 @@ module _ {roots : List (List ℕ)} where
       (readings_both ys rest q)
 
   -- all of them are openings, up to the largest size that is read, reads and looks
-  pub readings_spare : {xs : List Heard} → AreReadingsAndLooks roots xs → All (IsSparing []) xs
+  pub readings_spare : {xs : List Heard} → AreReadingsAndLooks looks xs → All (IsSparing []) xs
   readings_spare none_heard = All-nil (IsSparing [])
   readings_spare (one_look path answer more all under is rest) =
       subst (λ (heard : List Heard). All (IsSparing []) heard) (sym is)

@@ -24,7 +24,8 @@ use Rattle.index_rows.specs.Log.{drop_of, put_of}
 use Rattle.index_state.specs.Away.{MissesOut}
 use Rattle.index_state.specs.Bound.{StaysBounded}
 use Rattle.index_state.specs.Invariant.{IndexInvariant}
-use Rattle.index_state.specs.Judge.{IsGone, IsLeftOver, Removes, is_file, is_name_kept, is_strange, is_under}
+use Rattle.index_state.specs.Judge.{IsGone, IsLeftOver, Removes, is_file, is_name_kept}
+use Rattle.index_state.specs.Marks.{is_marked}
 use Rattle.index_state.specs.State.{StateFacts, pass_or_none}
 use Rattle.index_state.specs.Step.{IsAwaited, Stores}
 use Rattle.index_state.proofs.Bounds.{drop_open, put_open}
@@ -80,6 +81,12 @@ left_missed name pass names answers Fails =
     left_all (IsMissBy (pass_or_none pass).listing names (pass_or_none pass).missed answers Fails) name pass
     (still_missed (pass_or_none pass).listing names (pass_or_none pass).missed answers Fails)
 
+-- its marks stay
+left_marked : (name : NameFacts) (pass : Option PassFacts)
+    → (pass_or_none (option_map (left name) pass)).marked ≡ (pass_or_none pass).marked
+left_marked name None = refl
+left_marked name (Some pass) = refl
+
 filter_short : {X : Type 0} (p : X → Bool) (xs : List X) → length (filter p xs) ≤ length xs
 filter_short p [] = omega arith
 filter_short p (x ∷ xs) =
@@ -92,12 +99,12 @@ module _ {K : Type 0} {shows : K → ShownKeeper} {old new : StateFacts K} where
   -- nothing but the keeper changed
   pub same_on : {F : Type 0} {answers : List Heard} → IsPassOn old.pass old.pass
       → (shows old.keeper).faults ≤ (shows new.keeper).faults → new.pass ≡ old.pass → new.rows ≡ old.rows
-      → new.roots ≡ old.roots → new.origin ≡ old.origin → StaysBounded (pass_or_none old.pass).listing old new
+      → new.origin ≡ old.origin → StaysBounded (pass_or_none old.pass).listing old new
       → Advances shows answers F old new
-  same_on {F} {answers} opened keeper pass rows roots origin bounded = record {
+  same_on {F} {answers} opened keeper pass rows origin bounded = record {
     keeper = keeper;
     pass = subst (λ (o : Option PassFacts). IsPassOn old.pass o) (sym pass) opened;
-    roots = roots;
+    marked = ap (λ (o : Option PassFacts). (pass_or_none o).marked) pass;
     origin = origin;
     moves = moves_same rows;
     missed =
@@ -112,19 +119,20 @@ module _ {K : Type 0} {shows : K → ShownKeeper} {old new : StateFacts K} where
       → (shows old.keeper).faults ≤ (shows new.keeper).faults → new ≡ record old { keeper = keeper } → Advances shows answers F old new
   kept_on opened later same =
       same_on opened later (ap (λ (s : StateFacts K). s.pass) same) (ap (λ (s : StateFacts K). s.rows) same)
-      (ap (λ (s : StateFacts K). s.roots) same) (ap (λ (s : StateFacts K). s.origin) same)
+      (ap (λ (s : StateFacts K). s.origin) same)
       (bounded_same old new (pass_or_none old.pass).listing (ap (λ (s : StateFacts K). s.log) same)
       (ap (λ (s : StateFacts K). s.rows) same) (ap (λ (s : StateFacts K). s.broken) same))
 
   -- the pass alone changed, and no name was missed
   pub pass_on : {F : Type 0} {answers : List Heard} → IsPassOn old.pass new.pass
+      → (pass_or_none new.pass).marked ≡ (pass_or_none old.pass).marked
       → (pass_or_none new.pass).missed ≡ (pass_or_none old.pass).missed
       → ((path : List ℕ) → times_named (pass_or_none new.pass).todo path ≤ times_named (pass_or_none old.pass).todo path)
       → new ≡ record old { pass = new.pass } → Advances shows answers F old new
-  pass_on {F} {answers} on missed todo same = record {
+  pass_on {F} {answers} on marked missed todo same = record {
     keeper = let e = ap (λ (s : StateFacts K). (shows s.keeper).faults) same in omega (arith, e);
     pass = on;
-    roots = ap (λ (s : StateFacts K). s.roots) same;
+    marked = marked;
     origin = ap (λ (s : StateFacts K). s.origin) same;
     moves = moves_same (ap (λ (s : StateFacts K). s.rows) same);
     missed =
@@ -144,7 +152,7 @@ module _ {K : Type 0} {shows : K → ShownKeeper} {old new : StateFacts K} where
       subst (λ (s : StateFacts K). Advances shows answers F old s) (sym after) (record {
         keeper = omega arith;
         pass = left_on name opened;
-        roots = refl;
+        marked = left_marked name old.pass;
         origin = refl;
         moves = moves_same refl;
         missed = left_missed name old.pass (row_names old.rows) answers F;
@@ -164,11 +172,11 @@ module _ {K : Type 0} {shows : K → ShownKeeper} {old new : StateFacts K} where
       subst (λ (s : StateFacts K). Advances shows answers F old s) (sym stored.after) (record {
         keeper = stored.keeper.asked.cause.later;
         pass = left_on row.name opened;
-        roots = refl;
+        marked = left_marked row.name old.pass;
         origin = refl;
         moves = record {
           stays = put_stays row (pass_or_none old.pass).listing old.rows by_path awaited.listed awaited.absent;
-          goes = λ n stood gone none under.
+          goes = λ n stood gone none marked.
               absurd (put_goes row (pass_or_none old.pass).listing old.rows by_path awaited.listed n stood gone none);
           comes = put_comes row (pass_or_none old.pass).listing old.rows awaited.listed;
           brings = put_holds (IsBrought old.rows answers) row_path row old.rows (still_brought old.rows answers) (inr read);
@@ -212,21 +220,21 @@ file_by Gone met stamp saw there =
 file_by Failed met stamp saw there = absurd (cc)
 file_by OutOfMemory met stamp saw there = absurd (cc)
 
-module _ {answers : List Heard} (roots : List (List ℕ)) {name : NameFacts} {met : Seen} (sees : is_under roots name.path ≡ true → HasSeenFile answers name met) where
+module _ {answers : List Heard} (looks : List ℕ → Bool) {name : NameFacts} {met : Seen} (sees : looks name.path ≡ true → HasSeenFile answers name met) where
   -- a file that is gone was looked for
-  pub seen_gone : is_strange roots name met ≡ false → is_under roots name.path ≡ true → IsSeenGone answers name
-  seen_gone gone under =
-      let saw : HasSeenFile answers name met = sees under in
+  pub seen_gone : (looks name.path && is_file met name.stamp) ≡ false → looks name.path ≡ true → IsSeenGone answers name
+  seen_gone gone marked =
+      let saw : HasSeenFile answers name met = sees marked in
       record {
         answer = saw.answer;
         heard = saw.heard;
-        missing = missing_by saw.answer met name.stamp saw.saw (ap (λ b. b && is_file met name.stamp) (sym under) ∙ gone);
+        missing = missing_by saw.answer met name.stamp saw.saw (ap (λ b. b && is_file met name.stamp) (sym marked) ∙ gone);
       }
 
   -- and so was one that is there
-  pub seen_there : is_strange roots name met ≡ true → Contains answers (stat name.path (File name.stamp))
+  pub seen_there : (looks name.path && is_file met name.stamp) ≡ true → Contains answers (stat name.path (File name.stamp))
   seen_there strange =
-      let both = and_parts (is_under roots name.path) (is_file met name.stamp) strange in
+      let both = and_parts (looks name.path) (is_file met name.stamp) strange in
       let saw : HasSeenFile answers name met = sees both.0 in
       subst (λ (a : StatAnswer). Contains answers (stat name.path a)) (file_by saw.answer met name.stamp saw.saw both.1) saw.heard
 
@@ -248,7 +256,9 @@ module _ {K : Type 0} {shows : K → ShownKeeper} {old new : StateFacts K} where
       record {
         keeper = let e = ap (λ (s : StateFacts K). (shows s.keeper).faults) same in omega (arith, e);
         pass = on;
-        roots = ap (λ (s : StateFacts K). s.roots) same;
+        marked =
+            ap (λ (o : Option PassFacts). (pass_or_none o).marked) misses.missed.is ∙ ap (λ (p : PassFacts). p.marked) misses.missed.step.same
+            ∙ ap (λ (o : Option PassFacts). (pass_or_none o).marked) (sym misses.missed.was);
         origin = ap (λ (s : StateFacts K). s.origin) same;
         moves = moves_same (ap (λ (s : StateFacts K). s.rows) same);
         missed =
@@ -265,12 +275,13 @@ module _ {K : Type 0} {shows : K → ShownKeeper} {old new : StateFacts K} where
       }
   missed_on {F} {answers} false opened misses why =
       pass_on (subst (λ (o : Option PassFacts). IsPassOn old.pass o) (sym misses.missed.same) opened)
+      (ap (λ (o : Option PassFacts). (pass_or_none o).marked) misses.missed.same)
       (ap (λ (o : Option PassFacts). (pass_or_none o).missed) misses.missed.same) (same_todo misses.missed.same) misses.same
 
   -- the row of a name that isn't listed was dropped
   pub removed_on : {F : Type 0} {answers : List Heard} {true_row : RowFacts → Type 0} {tells : Bool} {name : NameFacts} {met : Seen}
       → IndexInvariant true_row tells shows old → IsPassOn old.pass old.pass
-      → (is_under old.roots name.path ≡ true → HasSeenFile answers name met)
+      → (is_marked old.pass name.path ≡ true → HasSeenFile answers name met)
       → IsGone name met old → Removes tells shows name old new → Advances shows answers F old new
   removed_on {F} {answers} {name = name} {met = met} holds opened sees gone removes =
       let left_over : IsLeftOver name old = gone.left_over in
@@ -279,16 +290,16 @@ module _ {K : Type 0} {shows : K → ShownKeeper} {old new : StateFacts K} where
       subst (λ (s : StateFacts K). Advances shows answers F old s) (sym removes.after) (record {
         keeper = removes.keeper.cause.later;
         pass = left_on name opened;
-        roots = refl;
+        marked = left_marked name old.pass;
         origin = refl;
         moves = record {
           stays = λ n listed stood.
               drop_stays name old.rows ascend left_over.stands n
               (λ same. true≢false (sym listed ∙ ap (is_in (pass_or_none old.pass).listing) same ∙ unlisted)) stood;
-          goes = λ n stood went none under.
+          goes = λ n stood went none marked.
               let same : n ≡ name = drop_goes name old.rows ascend left_over.stands n stood went in
               subst (λ (m : NameFacts). IsSeenGone answers m) (sym same)
-              (seen_gone old.roots sees gone.gone (ap (λ (m : NameFacts). is_under old.roots m.path) (sym same) ∙ under));
+              (seen_gone (is_marked old.pass) sees gone.gone (ap (λ (m : NameFacts). is_marked old.pass m.path) (sym same) ∙ marked));
           comes = λ n stands fresh. absurd (true≢false (sym (drop_comes name old.rows n stands) ∙ fresh));
           brings =
               All-filter (λ (r : RowFacts). not (bytes_eq (row_path r) name.path)) (IsBrought old.rows answers) old.rows

@@ -8,6 +8,8 @@ use Rattle.std.specs.Str.{bytes_eq}
 use Rattle.std.proofs.lemmas.List.Elements.{All-contains, All-cons, All-head, All-nil, All-tail, Contains-append_right}
 use Rattle.std.proofs.lemmas.List.Folds.{list_any_at}
 use Rattle.std.proofs.lemmas.Slice.Eq.{bytes_eq-Decides}
+use Rattle.std.proofs.lemmas.Bool.{and_parts}
+use Rattle.path_scope.specs.Scope.{Scope, is_under_root}
 use Rattle.row_types.specs.Name.{NameFacts, same_name, stamp_at}
 use Rattle.row_types.specs.Stamp.{StampFacts}
 use Rattle.scan_queue.specs.Names.{is_in}
@@ -87,8 +89,8 @@ is_contained names name h =
 no_stamp : {stamp : StampFacts} → None ≡ Some stamp → ⊥
 no_stamp e = absurd (cc)
 
-module _ {told : Bool} {version : Versions} {roots : List (List ℕ)} {walk : Walk} {walked more : List Heard}
-    {before after : ShownTree} (hears : HearsWalked told version roots walk walked more before after)
+module _ {told : Bool} {version : Versions} {scope : Scope} {walk : Walk} {walked more : List Heard}
+    {before after : ShownTree} (hears : HearsWalked told version scope walk walked more before after)
     (still : TellsStill told before) (name : NameFacts) where
   -- a listed file was another
   pub never_other : (met : Seen) → stamp_at walk.listing name.path ≡ Some name.stamp → HeardInPlace more name met → ⊥
@@ -103,9 +105,10 @@ module _ {told : Bool} {version : Versions} {roots : List (List ℕ)} {walk : Wa
       why.other
 
   -- a file stood that isn't listed
-  pub never_there : IsStray walk.listing roots name.path → Contains more (stat name.path (File name.stamp)) → ⊥
+  pub never_there : IsStray walk.listing scope name.path → Contains more (stat name.path (File name.stamp)) → ⊥
   never_there stray heard =
       let look = stat name.path (File name.stamp) in
+      let inside = and_parts (is_under_root scope name.path) (scope.takes name.path) stray.inside in
       let there : stamp_at before.present name.path ≡ Some name.stamp
       = All-contains (IsAnswerTold before.present) (walked ++ more) look (hears.tells still)
       (Contains-append_right walked more look heard) in
@@ -113,7 +116,8 @@ module _ {told : Bool} {version : Versions} {roots : List (List ℕ)} {walk : Wa
       = ((hears.under still).all name).1
       (record {
         there = contained before.present name (in_by_stamp name.path name.stamp before.present there);
-        under = stray.under;
+        under = inside.0;
+        taken = inside.1;
         short = stray.short;
       }) in
       let stamped : stamp_at walk.listing name.path ≡ Some name.stamp

@@ -17,7 +17,8 @@ use Rattle.scan_queue.specs.declared.miss.Seen.{Seen}
 use Rattle.scan_queue.specs.declared.miss.Seen.TheVariants as seen
 use Rattle.index_state.specs.Away.{MissesOut}
 use Rattle.index_state.specs.Invariant.{IndexInvariant}
-use Rattle.index_state.specs.Judge.{is_name_kept, is_under}
+use Rattle.index_state.specs.Judge.{is_name_kept}
+use Rattle.index_state.specs.Marks.{is_marked}
 use Rattle.index_state.specs.State.{StateFacts, pass_or_none}
 use Rattle.index_state.specs.Step.{IsAwaited, Judges}
 use Rattle.index_state.specs.declared.answer.Judged.{Judged}
@@ -37,7 +38,7 @@ use Rattle.tree_trait.specs.declared.stat.StatAnswer.{StatAnswer}
 use Rattle.tree_trait.specs.declared.stat.StatAnswer.TheVariants as said
 use Rattle.pass_runner.specs.Ends.{IsOutOfRoom, TurnsBy}
 use Rattle.pass_runner.specs.Settled.{AreReadingsAndLooks, none_heard, one_look, Advances, AlteredAreMissed, HadNoRow, IsBacked, IsPassOn, IsReadOf, MayBeAsked, Wants, is_missed, times_loaded, times_named}
-use Rattle.pass_runner.specs.Turns.{AppearsBy, HasSeenFile, IsLookUnder, JudgesLeft, LooksForFile, LooksTo, PublishesNew, TurnsOver, after_judged}
+use Rattle.pass_runner.specs.Turns.{AppearsBy, HasSeenFile, IsLookAmong, JudgesLeft, LooksForFile, LooksTo, PublishesNew, TurnsOver, after_judged}
 use Rattle.groomer.specs.Looks.{LooksAtName, looked_of}
 use Rattle.groomer.specs.declared.looking.Looked.{Looked}
 use Rattle.groomer.specs.declared.looking.Looked.TheVariants as looked
@@ -68,7 +69,7 @@ module _ {K : Type 0} (tells : Bool) (shows : K → ShownKeeper) (old new : Stat
   published_on row (Some KeeperFault) holds out read awaited h =
       same_on (listed_open old.pass row.name awaited.listed) h.keeper.asked.cause.later
       (ap (λ (s : StateFacts K). s.pass) h.after) (ap (λ (s : StateFacts K). s.rows) h.after)
-      (ap (λ (s : StateFacts K). s.roots) h.after) (ap (λ (s : StateFacts K). s.origin) h.after)
+      (ap (λ (s : StateFacts K). s.origin) h.after)
       (bounded_void old new (pass_or_none old.pass).listing (drop_of row.name) h.can.sound (ap (λ (s : StateFacts K). s.log) h.after)
       (ap (λ (s : StateFacts K). s.rows) h.after) (ap (λ (s : StateFacts K). s.broken) h.after))
   published_on row (Some LogFull) holds out read awaited h =
@@ -115,7 +116,7 @@ module _ {K : Type 0} (tells : Bool) (shows : K → ShownKeeper) (old new : Stat
   -- where a name that isn't listed is judged
   module _ (name : NameFacts) (met : Seen) (sound : old.broken ≡ false) (unlisted : is_name_kept old.pass name ≡ false) (out : is_in (pass_or_none old.pass).out name ≡ true) where
     judged_on : {F : Type 0} {true_row : RowFacts → Type 0} {answers : List Heard} (answer : Judged) → IndexInvariant true_row tells shows old
-        → (is_under old.roots name.path ≡ true → HasSeenFile answers name met)
+        → (is_marked old.pass name.path ≡ true → HasSeenFile answers name met)
         → Judges tells shows name met old answer new → Advances shows answers F old new
     judged_on judged.Broken holds sees h = absurd (true≢false (sym h.why ∙ sound))
     judged_on judged.Kept holds sees h = absurd (true≢false (sym h.why.kept ∙ unlisted))
@@ -124,7 +125,7 @@ module _ {K : Type 0} (tells : Bool) (shows : K → ShownKeeper) (old new : Stat
     judged_on judged.Strange holds sees h =
         missed_on {cause = Appeared} h.was_out (out_open old.pass name out) h.missed
         (record {
-          seen = record { unlisted = kept_listed old.pass name unlisted; heard = seen_there old.roots sees h.strange.strange };
+          seen = record { unlisted = kept_listed old.pass name unlisted; heard = seen_there (is_marked old.pass) sees h.strange.strange };
           row = h.strange.left_over.stands;
         })
     judged_on judged.LogFull holds sees h =
@@ -135,7 +136,7 @@ module _ {K : Type 0} (tells : Bool) (shows : K → ShownKeeper) (old new : Stat
     judged_on judged.KeeperFault holds sees h =
         same_on (out_open old.pass name out) h.drops.keeper.cause.later
         (ap (λ (s : StateFacts K). s.pass) h.drops.after) (ap (λ (s : StateFacts K). s.rows) h.drops.after)
-        (ap (λ (s : StateFacts K). s.roots) h.drops.after) (ap (λ (s : StateFacts K). s.origin) h.drops.after)
+        (ap (λ (s : StateFacts K). s.origin) h.drops.after)
         (bounded_void old new (pass_or_none old.pass).listing (put_of name) sound (ap (λ (s : StateFacts K). s.log) h.drops.after)
         (ap (λ (s : StateFacts K). s.rows) h.drops.after) (ap (λ (s : StateFacts K). s.broken) h.drops.after))
     judged_on judged.Dropped holds sees h = removed_on holds (out_open old.pass name out) sees h.gone h.drops
@@ -190,13 +191,13 @@ module _ {K : Type 0} (tells : Bool) (shows : K → ShownKeeper) (old new : Stat
     judged_cause judged.OutOfMemory h is = absurd (cc)
     judged_cause judged.Dropped h is = absurd (cc)
 
--- looks at paths under a root may be asked
-wanted_looks : (listing : List NameFacts) (roots : List (List ℕ)) (names : List NameFacts) (answers : List Heard)
-    → All (IsLookUnder roots) answers → All (MayBeAsked listing roots names) answers
-wanted_looks listing roots names answers asked =
-    All-weaker (IsLookUnder roots) (MayBeAsked listing roots names) each answers asked
+-- looks at paths that may be looked at may be asked
+wanted_looks : (listing : List NameFacts) (looks : List ℕ → Bool) (names : List NameFacts) (answers : List Heard)
+    → All (IsLookAmong looks) answers → All (MayBeAsked listing looks names) answers
+wanted_looks listing looks names answers asked =
+    All-weaker (IsLookAmong looks) (MayBeAsked listing looks names) each answers asked
   where
-    each : (asked : Heard) → IsLookUnder roots asked → MayBeAsked listing roots names asked
+    each : (asked : Heard) → IsLookAmong looks asked → MayBeAsked listing looks names asked
     each (stat path answer) h = h
     each (load path limit answer) h = absurd h
     each (read_dir path answer) h = absurd h
@@ -204,25 +205,25 @@ wanted_looks listing roots names answers asked =
     each (read_at name at answer) h = absurd h
 
 -- and are looks
-readings_looks : (roots : List (List ℕ)) (answers : List Heard) → All (IsLookUnder roots) answers
-    → AreReadingsAndLooks roots answers
-readings_looks roots [] asked = none_heard
-readings_looks roots (stat path answer ∷ more) asked =
-    one_look path answer more (stat path answer ∷ more) (All-head (IsLookUnder roots) (stat path answer) more asked) refl
-    (readings_looks roots more (All-tail (IsLookUnder roots) (stat path answer) more asked))
-readings_looks roots (load path limit answer ∷ more) asked =
-    absurd (All-head (IsLookUnder roots) (load path limit answer) more asked)
-readings_looks roots (read_dir path answer ∷ more) asked =
-    absurd (All-head (IsLookUnder roots) (read_dir path answer) more asked)
-readings_looks roots (open_file path limit answer ∷ more) asked =
-    absurd (All-head (IsLookUnder roots) (open_file path limit answer) more asked)
-readings_looks roots (read_at name at answer ∷ more) asked =
-    absurd (All-head (IsLookUnder roots) (read_at name at answer) more asked)
+readings_looks : (looks : List ℕ → Bool) (answers : List Heard) → All (IsLookAmong looks) answers
+    → AreReadingsAndLooks looks answers
+readings_looks looks [] asked = none_heard
+readings_looks looks (stat path answer ∷ more) asked =
+    one_look path answer more (stat path answer ∷ more) (All-head (IsLookAmong looks) (stat path answer) more asked) refl
+    (readings_looks looks more (All-tail (IsLookAmong looks) (stat path answer) more asked))
+readings_looks looks (load path limit answer ∷ more) asked =
+    absurd (All-head (IsLookAmong looks) (load path limit answer) more asked)
+readings_looks looks (read_dir path answer ∷ more) asked =
+    absurd (All-head (IsLookAmong looks) (read_dir path answer) more asked)
+readings_looks looks (open_file path limit answer ∷ more) asked =
+    absurd (All-head (IsLookAmong looks) (open_file path limit answer) more asked)
+readings_looks looks (read_at name at answer ∷ more) asked =
+    absurd (All-head (IsLookAmong looks) (read_at name at answer) more asked)
 
 -- and load nothing
-unloaded : (roots : List (List ℕ)) (answers : List Heard) → All (IsLookUnder roots) answers → (path : List ℕ)
+unloaded : (looks : List ℕ → Bool) (answers : List Heard) → All (IsLookAmong looks) answers → (path : List ℕ)
     → times_loaded answers path ≤ times_named [] path
-unloaded roots answers asked path = let none = loads_looks roots answers path asked in omega (arith, none)
+unloaded looks answers asked path = let none = loads_looks looks answers path asked in omega (arith, none)
 
 -- a name is awaited in a listing by path
 awaited_by_path : {K : Type 0} {true_row : RowFacts → Type 0} {tells : Bool} {shows : K → ShownKeeper} {state : StateFacts K} {name : NameFacts}
@@ -319,7 +320,7 @@ module _ {K : Type 0} {told : Bool} {version : Versions} {shows : K → ShownKee
   missed_so : {cause : Cause} {answers : List Heard} (reads : List NameFacts) (was_out : Bool) → old.broken ≡ false
       → is_in (pass_or_none old.pass).out name ≡ true → Listens told version before after answers
       → All (Wants old) answers
-      → AreReadingsAndLooks old.roots answers
+      → AreReadingsAndLooks (is_marked old.pass) answers
       → IsBacked (pass_or_none old.pass).listing (row_names old.rows) answers (Rose before.faults after.faults) name cause
       → (is_missed new name ≡ true → AlteredAreMissed (pass_or_none old.pass).listing answers new) → ((path : List ℕ) → times_loaded answers path ≤ times_named reads path) → MissesOut name cause old was_out new
       → AppearsBy reads old new → TurnsOver told version shows reads name before after old new None
@@ -367,27 +368,27 @@ module _ {K : Type 0} {told : Bool} {version : Versions} {shows : K → ShownKee
 
   -- the look failed
   pub turns_unseen : (was_out : Bool) → old.broken ≡ false → is_in (pass_or_none old.pass).out name ≡ true
-      → LooksForFile told version old.roots name before after looked.Failed → MissesOut name ReadFault old was_out new
+      → LooksForFile told version (is_marked old.pass) name before after looked.Failed → MissesOut name ReadFault old was_out new
       → TurnsOver told version shows [] name before after old new None
   turns_unseen was_out sound out looks misses =
-      missed_so {cause = ReadFault} [] was_out sound out looks.listens (wanted_looks (pass_or_none old.pass).listing old.roots (row_names old.rows) looks.answers looks.asked) (readings_looks old.roots looks.answers looks.asked) looks.leads
-      (λ missed. unaltered_looks (pass_or_none old.pass).listing old.roots looks.answers new looks.asked)
-      (unloaded old.roots looks.answers looks.asked) misses
+      missed_so {cause = ReadFault} [] was_out sound out looks.listens (wanted_looks (pass_or_none old.pass).listing (is_marked old.pass) (row_names old.rows) looks.answers looks.asked) (readings_looks (is_marked old.pass) looks.answers looks.asked) looks.leads
+      (λ missed. unaltered_looks (pass_or_none old.pass).listing (is_marked old.pass) looks.answers new looks.asked)
+      (unloaded (is_marked old.pass) looks.answers looks.asked) misses
       (λ stood. missed_stand old new {cause = ReadFault} was_out (λ is. absurd (cc)) misses stood)
 
   -- and the row is judged by what was seen
   pub turns_judged : {true_row : RowFacts → Type 0} {tells : Bool} {met : Seen} {end : Option WorkEnd} → IndexInvariant true_row tells shows old → old.broken ≡ false
       → is_name_kept old.pass name ≡ false → is_in (pass_or_none old.pass).out name ≡ true
-      → LooksForFile told version old.roots name before after (looked.Saw met) → JudgesLeft tells shows name met old new end
+      → LooksForFile told version (is_marked old.pass) name before after (looked.Saw met) → JudgesLeft tells shows name met old new end
       → TurnsOver told version shows [] name before after old new end
   turns_judged {tells = tells} {met = met} {end = end} holds sound unlisted out looks h =
       let on : Advances shows looks.answers (Rose before.faults after.faults) old new
       = judged_on tells shows old new name met sound unlisted out h.answer holds looks.leads h.judged in
       record {
         settles =
-            settles_by looks.listens (wanted_looks (pass_or_none old.pass).listing old.roots (row_names old.rows) looks.answers looks.asked) (readings_looks old.roots looks.answers looks.asked)
-            (unaltered_looks (pass_or_none old.pass).listing old.roots looks.answers new looks.asked) on;
-        loads = unloaded old.roots looks.answers looks.asked;
+            settles_by looks.listens (wanted_looks (pass_or_none old.pass).listing (is_marked old.pass) (row_names old.rows) looks.answers looks.asked) (readings_looks (is_marked old.pass) looks.answers looks.asked)
+            (unaltered_looks (pass_or_none old.pass).listing (is_marked old.pass) looks.answers new looks.asked) on;
+        loads = unloaded (is_marked old.pass) looks.answers looks.asked;
         ends = subst (λ (e : Option WorkEnd). TurnsBy name old new e) (sym h.ends) (judged_ends tells shows old new name met sound unlisted out h.answer h.judged);
         appears = judged_appears tells shows old new name met sound unlisted out h.answer holds h.judged;
         keeper = record {
@@ -399,12 +400,12 @@ module _ {K : Type 0} {told : Bool} {version : Versions} {shows : K → ShownKee
 module _ {K : Type 0} {told : Bool} {version : Versions} {shows : K → ShownKeeper} {before after : ShownTree} {state : StateFacts K} {name : NameFacts} where
   wanting : {answers : List Heard} (reads : List NameFacts) → IsPassOn state.pass state.pass → state.broken ≡ false → Listens told version before after answers
       → All (Wants state) answers
-      → AreReadingsAndLooks state.roots answers
+      → AreReadingsAndLooks (is_marked state.pass) answers
       → AlteredAreMissed (pass_or_none state.pass).listing answers state
       → ((path : List ℕ) → times_loaded answers path ≤ times_named reads path)
       → TurnsOver told version shows reads name before after state state (Some OutOfMemory)
   wanting reads opened sound listens wanted parts altered loads = record {
-    settles = settles_by listens wanted parts altered (same_on opened (omega arith) refl refl refl refl (omega arith));
+    settles = settles_by listens wanted parts altered (same_on opened (omega arith) refl refl refl (omega arith));
     loads = loads;
     ends = sound;
     appears = appears_same state state reads refl refl;
@@ -423,17 +424,17 @@ module _ {K : Type 0} {told : Bool} {version : Versions} {shows : K → ShownKee
 
   -- or for the look
   pub turns_blind : state.broken ≡ false → is_in (pass_or_none state.pass).out name ≡ true
-      → LooksForFile told version state.roots name before after looked.OutOfMemory
+      → LooksForFile told version (is_marked state.pass) name before after looked.OutOfMemory
       → TurnsOver told version shows [] name before after state state (Some OutOfMemory)
   turns_blind sound out looks =
-      wanting [] (out_open state.pass name out) sound looks.listens (wanted_looks (pass_or_none state.pass).listing state.roots (row_names state.rows) looks.answers looks.asked) (readings_looks state.roots looks.answers looks.asked)
-      (unaltered_looks (pass_or_none state.pass).listing state.roots looks.answers state looks.asked)
-      (unloaded state.roots looks.answers looks.asked)
+      wanting [] (out_open state.pass name out) sound looks.listens (wanted_looks (pass_or_none state.pass).listing (is_marked state.pass) (row_names state.rows) looks.answers looks.asked) (readings_looks (is_marked state.pass) looks.answers looks.asked)
+      (unaltered_looks (pass_or_none state.pass).listing (is_marked state.pass) looks.answers state looks.asked)
+      (unloaded (is_marked state.pass) looks.answers looks.asked)
 
 -- a look that was made
-module _ {told : Bool} {version : Versions} {before after : ShownTree} (roots : List (List ℕ)) (name : NameFacts) where
+module _ {told : Bool} {version : Versions} {before after : ShownTree} (looks : List ℕ → Bool) (name : NameFacts) where
   looks_lead : (answer : StatAnswer) → AsksTree told version before after (stat name.path answer)
-      → LooksTo (is_under roots name.path) (heard_or_none (stat name.path answer)) name (Rose before.faults after.faults) (looked_of answer)
+      → LooksTo (looks name.path) (heard_or_none (stat name.path answer)) name (Rose before.faults after.faults) (looked_of answer)
   looks_lead said.Folder asks = λ under. record { answer = said.Folder; heard = is_heard (stat name.path said.Folder) refl; saw = refl }
   looks_lead (said.File stamp) asks = λ under. record { answer = said.File stamp; heard = is_heard (stat name.path (said.File stamp)) refl; saw = refl }
   looks_lead said.Other asks = λ under. record { answer = said.Other; heard = is_heard (stat name.path said.Other) refl; saw = refl }
@@ -441,39 +442,39 @@ module _ {told : Bool} {version : Versions} {before after : ShownTree} (roots : 
   looks_lead said.Failed asks = asks.hands.cause.rose refl
   looks_lead said.OutOfMemory asks = tt
 
-  pub looks_by : (answer : StatAnswer) → is_under roots name.path ≡ true → AsksTree told version before after (stat name.path answer)
-      → LooksForFile told version roots name before after (looked_of answer)
+  pub looks_by : (answer : StatAnswer) → looks name.path ≡ true → AsksTree told version before after (stat name.path answer)
+      → LooksForFile told version looks name before after (looked_of answer)
   looks_by answer under asks = record {
     answers = heard_or_none (stat name.path answer);
     listens = listens_one (stat name.path answer) asks;
-    asked = all_heard (IsLookUnder roots) (stat name.path answer) under;
+    asked = all_heard (IsLookAmong looks) (stat name.path answer) under;
     leads = looks_lead answer asks;
   }
 
 -- no look was made
-pub looks_none : {told : Bool} {version : Versions} {hand : ShownTree} (roots : List (List ℕ)) (name : NameFacts) {met : Seen}
-    → is_under roots name.path ≡ false → LooksForFile told version roots name hand hand (looked.Saw met)
-looks_none roots name apart = record {
+pub looks_none : {told : Bool} {version : Versions} {hand : ShownTree} (looks : List ℕ → Bool) (name : NameFacts) {met : Seen}
+    → looks name.path ≡ false → LooksForFile told version looks name hand hand (looked.Saw met)
+looks_none looks name apart = record {
   answers = [];
   listens = listens_none;
-  asked = All-nil (IsLookUnder roots);
+  asked = All-nil (IsLookAmong looks);
   leads = λ under. absurd (true≢false (sym under ∙ apart));
 }
 
--- a look was made at a path under a root, and none elsewhere
+-- a look was made at a path that may be looked at, and none elsewhere
 module _ {told : Bool} {version : Versions} {T : Type 0} (shows : T → ShownTree) (before after : T) (under : Bool) where
-  pub looks_as : (roots : List (List ℕ)) (name : NameFacts) (end : Looked) → under ≡ is_under roots name.path
+  pub looks_as : (looks : List ℕ → Bool) (name : NameFacts) (end : Looked) → under ≡ looks name.path
       → OnTrue under (LooksAtName told version name (shows before) (shows after) end)
       → OnFalse under (end ≡ looked.Saw seen.Gone) → OnFalse under (after ≡ before)
-      → LooksForFile told version roots name (shows before) (shows after) end
-  looks_as roots name end lies at apart same =
-      elim under as (λ b. under ≡ b → LooksForFile told version roots name (shows before) (shows after) end) [
+      → LooksForFile told version looks name (shows before) (shows after) end
+  looks_as looks name end lies at apart same =
+      elim under as (λ b. under ≡ b → LooksForFile told version looks name (shows before) (shows after) end) [
         | true ↦ λ is.
             let seen_there = OnTrue_at is at in
-            subst (λ (e : Looked). LooksForFile told version roots name (shows before) (shows after) e) (sym seen_there.saw)
-            (looks_by roots name seen_there.answer (sym lies ∙ is) seen_there.asks)
+            subst (λ (e : Looked). LooksForFile told version looks name (shows before) (shows after) e) (sym seen_there.saw)
+            (looks_by looks name seen_there.answer (sym lies ∙ is) seen_there.asks)
         | false ↦ λ is.
-            subst (λ (t : T). LooksForFile told version roots name (shows before) (shows t) end) (sym (OnFalse_at is same))
-            (subst (λ (e : Looked). LooksForFile told version roots name (shows before) (shows before) e) (sym (OnFalse_at is apart))
-            (looks_none roots name (sym lies ∙ is)))
+            subst (λ (t : T). LooksForFile told version looks name (shows before) (shows t) end) (sym (OnFalse_at is same))
+            (subst (λ (e : Looked). LooksForFile told version looks name (shows before) (shows before) e) (sym (OnFalse_at is apart))
+            (looks_none looks name (sym lies ∙ is)))
       ] refl

@@ -2,6 +2,7 @@
 use Rattle.std.specs.Prelude.{◌≡◌, ◌⊎◌, ℕ, ◌+◌, ◌≤◌, Bool, true, false, List, IsTrue}
 use Rattle.row_types.specs.Name.{NameFacts}
 use Rattle.row_types.specs.Rules.{Rules}
+use Rattle.path_scope.specs.Scope.{Scope}
 use Rattle.index_keeper.specs.Keeper.{ShownKeeper}
 use Rattle.index_state.specs.State.{StateFacts}
 use Rattle.index_state.specs.Step.{after_begin}
@@ -24,15 +25,15 @@ pub record StaysOut {K T : Type 0} (before after : T) (old new : StateFacts K) (
 
 -- a pass over the listing was begun again and settled, or could not be begun
 abbrev pub EndsAgain : {K T : Type 0} → Rules → Bool → Bool → (K → ShownKeeper) → (T → ShownTree) → Plan
-    → List NameFacts → List (List ℕ) → T → T → StateFacts K → StateFacts K → PassEnd → Type 0
-EndsAgain world told tells shows sees plan listing roots before after old new KeeperFault =
-    EndsBegun world told tells shows plan (sees before) (sees after) (after_begin listing roots old) new KeeperFault
+    → List NameFacts → Scope → T → T → StateFacts K → StateFacts K → PassEnd → Type 0
+EndsAgain world told tells shows sees plan listing scope before after old new KeeperFault =
+    EndsBegun world told tells shows plan (sees before) (sees after) (after_begin listing scope old) new KeeperFault
     ⊎ StaysOut before after old new (old.broken ≡ true)
-EndsAgain world told tells shows sees plan listing roots before after old new OutOfMemory =
-    EndsBegun world told tells shows plan (sees before) (sees after) (after_begin listing roots old) new OutOfMemory
+EndsAgain world told tells shows sees plan listing scope before after old new OutOfMemory =
+    EndsBegun world told tells shows plan (sees before) (sees after) (after_begin listing scope old) new OutOfMemory
     ⊎ StaysOut before after old new (old.broken ≡ false)
-EndsAgain world told tells shows sees plan listing roots before after old new end =
-    EndsBegun world told tells shows plan (sees before) (sees after) (after_begin listing roots old) new end
+EndsAgain world told tells shows sees plan listing scope before after old new end =
+    EndsBegun world told tells shows plan (sees before) (sees after) (after_begin listing scope old) new end
 
 -- a pass that came to be whole is one only where so many openings were counted as it read files, where that is asked for
 abbrev pub IsWeighed : PassEnd → ℕ → Bool → PassEnd → Type 0

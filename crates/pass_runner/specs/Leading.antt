@@ -1,10 +1,11 @@
 -- What the hand that leads a pass does over a shared index (this crate's bookkeeping, which no public clause cites).
-use Rattle.std.specs.Prelude.{◌≡◌, ◌⊎◌, ℕ, ◌+◌, ◌==◌, ◌&&◌, Bool, true, false, not, List, [], ◌∷◌, ◌++◌, All, Contains, length, Option, Some}
+use Rattle.std.specs.Prelude.{◌≡◌, ◌⊎◌, ◌+◌, ◌==◌, ◌&&◌, Bool, true, false, not, List, [], ◌∷◌, ◌++◌, All, Contains, length, Option, Some}
 use Rattle.row_types.specs.Faults.{Rose}
 use Rattle.row_types.specs.Name.{NameFacts, stamp_at}
 use Rattle.row_types.specs.Row.{RowFacts}
 use Rattle.row_types.specs.Rules.{Rules}
 use Rattle.index_lock.specs.Tokens.{IsLater, SeatFacts}
+use Rattle.path_scope.specs.Scope.{Scope, is_in_scope}
 use Rattle.index_rows.specs.Log.{replay}
 use Rattle.index_keeper.specs.Keeper.{ShownKeeper}
 use Rattle.index_rows.specs.declared.change.Change.{Change}
@@ -41,13 +42,13 @@ IsMissNoted brought log answers Failed missed miss =
     Contains missed miss ⊎ IsMetByHand brought log answers Failed miss.name miss.cause
 
 -- from one moment of the settling to a later one: the token is a later one, the hand heard nothing but openings, reads of parts and
--- looks under the roots, and each miss that was noted since it met itself
-pub record LeadsInSettling (told : Bool) (version : Versions) (roots : List (List ℕ)) (seat : SeatFacts Change Origin) (before : ShownTree)
+-- looks in the scope, and each miss that was noted since it met itself
+pub record LeadsInSettling (told : Bool) (version : Versions) (scope : Scope) (seat : SeatFacts Change Origin) (before : ShownTree)
     (later_seat : SeatFacts Change Origin) (after : ShownTree) (missed later_missed : List Miss) : Type 0 where
   pub later : IsLater seat later_seat
   pub more : List Heard
   pub listens : Listens told version before after more
-  pub asks : AreReadingsAndLooks roots more
+  pub asks : AreReadingsAndLooks (is_in_scope scope) more
   pub noted : All (IsMissNoted seat.seen later_seat.seen more (Rose before.faults after.faults) missed) later_missed
 
 -- the list has the miss more, or is as it was
@@ -91,21 +92,21 @@ IsOpenBy listing names name =
     has_stamp (stamp_at names name.path) name.stamp ≡ not (has_stamp (stamp_at listing name.path) name.stamp)
 
 -- the miss is one of these, one of the pass, and still open
-pub record IsOneOf (listing : List NameFacts) (roots : List (List ℕ)) (met : List Miss) (log : List Change) (miss : Miss) : Type 0 where
+pub record IsOneOf (listing : List NameFacts) (scope : Scope) (met : List Miss) (log : List Change) (miss : Miss) : Type 0 where
   pub among : Contains met miss
-  pub of_pass : IsOfPass listing roots miss.name miss.cause
+  pub of_pass : IsOfPass listing scope miss.name miss.cause
   pub stands : StillStands listing log miss.name
   pub sound : ¬ EndsVoid log
 
 -- what the last hold of a pass shows
-abbrev pub LastShows : Rules → List NameFacts → List (List ℕ) → Plan → List Miss → List Change → PassEnd → Type 0
-LastShows world listing roots plan met log (Whole summary) = IsAllDone world listing plan log summary
-LastShows world listing roots plan met log (Missed miss) = IsOneOf listing roots met log miss
-LastShows world listing roots plan met log (Unwalked fault) = ⊥
-LastShows world listing roots plan met log Broken = ⊥
-LastShows world listing roots plan met log KeeperFault = EndsVoid log
-LastShows world listing roots plan met log LogFull = HasNoRoom listing log
-LastShows world listing roots plan met log OutOfMemory = Unit {0}
+abbrev pub LastShows : Rules → List NameFacts → Scope → Plan → List Miss → List Change → PassEnd → Type 0
+LastShows world listing scope plan met log (Whole summary) = IsAllDone world listing plan log summary
+LastShows world listing scope plan met log (Missed miss) = IsOneOf listing scope met log miss
+LastShows world listing scope plan met log (Unwalked fault) = ⊥
+LastShows world listing scope plan met log Broken = ⊥
+LastShows world listing scope plan met log KeeperFault = EndsVoid log
+LastShows world listing scope plan met log LogFull = HasNoRoom listing log
+LastShows world listing scope plan met log OutOfMemory = Unit {0}
 
 -- no name is left
 abbrev pub is_none_left : Standing → Bool
@@ -133,47 +134,47 @@ EndsOpen world tells shows plan own state _ = ⊥
 
 -- a pass over the listing was begun again, and ended so
 pub record OpensLast {K : Type 0} (world : Rules) (tells : Bool) (shows : K → ShownKeeper) (listing : List NameFacts)
-    (roots : List (List ℕ)) (plan : Plan) (own : Option Miss) (old new : StateFacts K) (end : PassEnd) : Type 0 where
+    (scope : Scope) (plan : Plan) (own : Option Miss) (old new : StateFacts K) (end : PassEnd) : Type 0 where
   pub again : Plan
-  pub begins : BeginsPass listing roots again old new
+  pub begins : BeginsPass listing scope again old new
   pub ends : EndsOpen world tells shows plan own new end
 
 -- what the last hold made of the index
-abbrev pub BeginsLast : {K : Type 0} → Rules → Bool → (K → ShownKeeper) → List NameFacts → List (List ℕ) → Plan
+abbrev pub BeginsLast : {K : Type 0} → Rules → Bool → (K → ShownKeeper) → List NameFacts → Scope → Plan
     → Option Miss → StateFacts K → StateFacts K → PassEnd → Type 0
-BeginsLast world tells shows listing roots plan own old new KeeperFault = StateStays (old.broken ≡ true) old new
-BeginsLast world tells shows listing roots plan own old new OutOfMemory =
+BeginsLast world tells shows listing scope plan own old new KeeperFault = StateStays (old.broken ≡ true) old new
+BeginsLast world tells shows listing scope plan own old new OutOfMemory =
     StateStays (old.broken ≡ false) old new
-    ⊎ OpensLast world tells shows listing roots plan own old new OutOfMemory
-BeginsLast world tells shows listing roots plan own old new end =
-    OpensLast world tells shows listing roots plan own old new end
+    ⊎ OpensLast world tells shows listing scope plan own old new OutOfMemory
+BeginsLast world tells shows listing scope plan own old new end =
+    OpensLast world tells shows listing scope plan own old new end
 
 -- how the settling and the last hold end a pass, by the plan whose numbers are told
-abbrev pub EndsPlanned : Rules → List NameFacts → List (List ℕ) → Plan → List Change → List Change → List Heard → Type 0
+abbrev pub EndsPlanned : Rules → List NameFacts → Scope → Plan → List Change → List Change → List Heard → Type 0
     → PassEnd → Type 0
-EndsPlanned world listing roots plan brought log answers Failed (Whole summary) =
+EndsPlanned world listing scope plan brought log answers Failed (Whole summary) =
     IsAllDone world listing plan log summary
-EndsPlanned world listing roots plan brought log answers Failed (Missed miss) =
-    IsOwnMiss listing roots brought log answers Failed miss
-EndsPlanned world listing roots plan brought log answers Failed (Unwalked fault) = ⊥
-EndsPlanned world listing roots plan brought log answers Failed Broken = ⊥
-EndsPlanned world listing roots plan brought log answers Failed KeeperFault = EndsVoid log
-EndsPlanned world listing roots plan brought log answers Failed LogFull = HasNoRoom listing log
-EndsPlanned world listing roots plan brought log answers Failed OutOfMemory = Unit {0}
+EndsPlanned world listing scope plan brought log answers Failed (Missed miss) =
+    IsOwnMiss listing scope brought log answers Failed miss
+EndsPlanned world listing scope plan brought log answers Failed (Unwalked fault) = ⊥
+EndsPlanned world listing scope plan brought log answers Failed Broken = ⊥
+EndsPlanned world listing scope plan brought log answers Failed KeeperFault = EndsVoid log
+EndsPlanned world listing scope plan brought log answers Failed LogFull = HasNoRoom listing log
+EndsPlanned world listing scope plan brought log answers Failed OutOfMemory = Unit {0}
 
 -- the first hand settled what was left, and the pass ended so
-pub record SettlesLast (world : Rules) (told : Bool) (listing : List NameFacts) (roots : List (List ℕ)) (plan : Plan)
+pub record SettlesLast (world : Rules) (told : Bool) (listing : List NameFacts) (scope : Scope) (plan : Plan)
     (brought log : List Change) (before after : ShownTree) (end : PassEnd) : Type 0 where
   pub more : List Heard
   pub listens : Listens told world.version before after more
-  pub asks : AreReadingsAndLooks roots more
-  pub ends : EndsPlanned world listing roots plan brought log more (Rose before.faults after.faults) end
+  pub asks : AreReadingsAndLooks (is_in_scope scope) more
+  pub ends : EndsPlanned world listing scope plan brought log more (Rose before.faults after.faults) end
 
--- what came of a pass over a listing: the first hand heard nothing but openings, reads of parts and looks under the roots, and the
+-- what came of a pass over a listing: the first hand heard nothing but openings, reads of parts and looks in the scope, and the
 -- pass ended so
-pub record LeadsPass (world : Rules) (told : Bool) (listing : List NameFacts) (roots : List (List ℕ))
+pub record LeadsPass (world : Rules) (told : Bool) (listing : List NameFacts) (scope : Scope)
     (brought log : List Change) (before after : ShownTree) (end : PassEnd) : Type 0 where
   pub more : List Heard
   pub listens : Listens told world.version before after more
-  pub asks : AreReadingsAndLooks roots more
-  pub ends : EndsListed world listing roots brought log more (Rose before.faults after.faults) end
+  pub asks : AreReadingsAndLooks (is_in_scope scope) more
+  pub ends : EndsListed world listing scope brought log more (Rose before.faults after.faults) end

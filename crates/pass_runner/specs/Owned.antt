@@ -10,10 +10,12 @@ use Rattle.row_types.specs.Faults.{Rose}
 use Rattle.row_types.specs.Ascends.{IsBefore}
 use Rattle.row_types.specs.Name.{NameFacts, stamp_at}
 use Rattle.row_types.specs.Rules.{Rules}
+use Rattle.path_scope.specs.Scope.{Scope, is_in_scope}
 use Rattle.index_keeper.specs.Keeper.{ShownKeeper}
 use Rattle.index_rows.specs.Rows.{row_names}
 use Rattle.index_state.specs.Complete.{CompletePass}
 use Rattle.index_state.specs.Bound.{IsWithinPlan, StaysBounded, still_open}
+use Rattle.index_state.specs.Marks.{marked_in}
 use Rattle.index_state.specs.Plan.{most_changes, plan_of}
 use Rattle.index_state.specs.declared.answer.Plan.{Plan}
 use Rattle.index_state.specs.State.{StateFacts, pass_or_none, unspared}
@@ -48,39 +50,39 @@ abbrev pub TellsStill : Bool → ShownTree → Type 0
 TellsStill told hand = IsTrue told × hand.Still
 
 -- what the first hand heard: a whole walk of the roots, and then more. All of it is full, and leads to the listing. Where
--- the hand tells files that never change, these are the answers that it tells of them, and the listing is the files under
--- the roots
-pub record HearsWalked (told : Bool) (version : Versions) (roots : List (List ℕ)) (walk : Walk) (walked more : List Heard)
+-- the hand tells files that never change, these are the answers that it tells of them, and the listing is the selected
+-- files under the roots
+pub record HearsWalked (told : Bool) (version : Versions) (scope : Scope) (walk : Walk) (walked more : List Heard)
     (before after : ShownTree) : Type 0 where
   pub heard : ListsAnswers before.heard (walked ++ more) after.heard
-  pub whole : IsWholeWalk walked roots walk
-  pub full : AsksAll (walked ++ more) roots
-  pub listing : IsWalkListing (walked ++ more) roots walk.listing
+  pub whole : IsWholeWalk walked scope walk
+  pub full : AsksAll (walked ++ more) scope
+  pub listing : IsWalkListing (walked ++ more) scope walk.listing
   pub fits : All (FitsAny version) more
   pub tells : TellsStill told before → All (IsAnswerTold before.present) (walked ++ more)
-  pub under : TellsStill told before → AreFilesUnder before.present roots walk.listing
+  pub under : TellsStill told before → AreFilesUnder before.present scope walk.listing
 
 -- and behind the walk nothing but openings and reads of listed files whose names had no row, of each file its parts alone, and
--- looks at paths under a root; no path was opened twice
-pub record HearsPass (told : Bool) (version : Versions) (roots : List (List ℕ)) (names : List NameFacts) (walk : Walk)
+-- looks at paths in the scope; no path was opened twice
+pub record HearsPass (told : Bool) (version : Versions) (scope : Scope) (names : List NameFacts) (walk : Walk)
     (walked more : List Heard) (before after : ShownTree) : Type 0 where
-  pub walks : HearsWalked told version roots walk walked more before after
-  pub wanted : All (MayBeAsked walk.listing roots names) more
-  pub parts : AreReadingsAndLooks roots more
+  pub walks : HearsWalked told version scope walk walked more before after
+  pub wanted : All (MayBeAsked walk.listing (is_in_scope scope) names) more
+  pub parts : AreReadingsAndLooks (is_in_scope scope) more
   pub once : (path : List ℕ) → times_loaded more path ≤ 1
 
--- what the pass left of the index, however it ended: a pass over the listing is open; the rows went and came as in a pass; a
--- name is missed only for a reason; no name is skipped, and else the origin is as it was; and the log did not grow more than
--- what is open became less, but for a void change
-pub record LeavesIndex {K : Type 0} (folders : List (List ℕ)) (listing : List NameFacts) (more : List Heard)
+-- what the pass left of the index, however it ended: a pass over the listing is open, with the marks of the scope; the rows
+-- went and came as in a pass; a name is missed only for a reason; no name is skipped, and else the origin is as it was; and
+-- the log did not grow more than what is open became less, but for a void change
+pub record LeavesIndex {K : Type 0} (scope : Scope) (listing : List NameFacts) (more : List Heard)
     (Failed : Type 0) (old new : StateFacts K) : Type 0 where
   pub pass : PassFacts
   pub is_open : new.pass ≡ Some pass
   pub over : pass.listing ≡ listing
-  pub roots : new.roots ≡ folders
+  pub marked : pass.marked ≡ marked_in scope listing (row_names old.rows)
   pub origin : new.origin ≡ unspared old.origin
   pub bounded : StaysBounded listing old new
-  pub moves : MovesRows listing folders more old.rows new.rows
+  pub moves : MovesRows listing (is_in_scope scope) more old.rows new.rows
   pub missed : All (λ miss. IsBacked listing (row_names old.rows) more Failed miss.name miss.cause) pass.missed
 
 -- what the other hands left of an index over which a pass had begun: its log goes on from the one before, no row of a listed name
@@ -98,7 +100,7 @@ pub record IsHelped {K : Type 0} (hands : ℕ) (listing : List NameFacts) (old f
 
 -- the roots were walked, a pass over what was listed began, the other hands helped, the first one settled what was left,
 -- and this came of it; the log grew by no more than its plan allows, but for a void change
-pub record RunsPass {K : Type 0} (world : Rules) (told : Bool) (hands : ℕ) (roots : List (List ℕ))
+pub record RunsPass {K : Type 0} (world : Rules) (told : Bool) (hands : ℕ) (scope : Scope)
     (listing : List NameFacts) (before after : ShownTree) (old new : StateFacts K)
     (Ends : StateFacts K → List Heard → Type 0) : Type 0 where
   pub walk : Walk
@@ -107,20 +109,20 @@ pub record RunsPass {K : Type 0} (world : Rules) (told : Bool) (hands : ℕ) (ro
   pub more : List Heard
   pub found : StateFacts K
   pub helped : IsHelped hands listing old found
-  pub hears : HearsPass told world.version roots (row_names found.rows) walk walked more before after
-  pub leaves : LeavesIndex roots listing more (Rose before.faults after.faults) found new
+  pub hears : HearsPass told world.version scope (row_names found.rows) walk walked more before after
+  pub leaves : LeavesIndex scope listing more (Rose before.faults after.faults) found new
   pub bounded : IsWithinPlan listing old new
   pub ends : Ends found more
 
 -- the walk ended with a fault, which files that never change explain; nothing was opened
-pub record WalksInto (told : Bool) (roots : List (List ℕ)) (fault : WalkFault) (before after : ShownTree) : Type 0 where
-  pub walks : WalksTree told before after roots (Err fault)
-  pub fits : TellsStill told before → FitsFault before.present roots fault
+pub record WalksInto (told : Bool) (scope : Scope) (fault : WalkFault) (before after : ShownTree) : Type 0 where
+  pub walks : WalksTree told before after scope (Err fault)
+  pub fits : TellsStill told before → FitsFault before.present scope fault
 
 -- the roots could not be walked: the index stays as it is
-pub record EndsUnwalked {K : Type 0} (told : Bool) (roots : List (List ℕ)) (before after : ShownTree)
+pub record EndsUnwalked {K : Type 0} (told : Bool) (scope : Scope) (before after : ShownTree)
     (old new : StateFacts K) (fault : WalkFault) : Type 0 where
-  pub stops : WalksInto told roots fault before after
+  pub stops : WalksInto told scope fault before after
   pub same : new ≡ old
 
 -- the index is one scan of the listing: the rows' names are the listed ones, in a told world the rows are its scan, and a
@@ -154,44 +156,44 @@ pub record HasMissed {K : Type 0} (miss : Miss) (Failed : Type 0) (listing : Lis
 
 -- the pass ended while, or as soon as, the other hands had helped: the first hand heard the walk alone, and the log grew by
 -- no more than the plan allows, but for a void change
-pub record EndsPassHelped {K : Type 0} (told : Bool) (hands : ℕ) (roots : List (List ℕ)) (listing : List NameFacts)
+pub record EndsPassHelped {K : Type 0} (told : Bool) (hands : ℕ) (scope : Scope) (listing : List NameFacts)
     (before after : ShownTree) (old new : StateFacts K) (Ends : Type 0) : Type 0 where
   pub walk : Walk
   pub over : walk.listing ≡ listing
-  pub walks : WalksTree told before after roots (Ok walk)
+  pub walks : WalksTree told before after scope (Ok walk)
   pub helped : IsHelped hands listing old new
   pub bounded : IsWithinPlan listing old new
   pub ends : Ends
 
 -- memory was refused before the pass began: nothing was opened, and the index stays as it is
-pub record EndsPassEarly {K : Type 0} (told : Bool) (roots : List (List ℕ)) (listing : List NameFacts)
+pub record EndsPassEarly {K : Type 0} (told : Bool) (scope : Scope) (listing : List NameFacts)
     (before after : ShownTree) (old new : StateFacts K) : Type 0 where
   pub walk : Walk
   pub over : walk.listing ≡ listing
-  pub walks : WalksTree told before after roots (Ok walk)
+  pub walks : WalksTree told before after scope (Ok walk)
   pub same : new ≡ old
 
 -- how the pass ended, and what it left
-abbrev pub EndsPass : {K : Type 0} → Rules → Bool → Bool → (K → ShownKeeper) → ℕ → List (List ℕ) → List NameFacts
+abbrev pub EndsPass : {K : Type 0} → Rules → Bool → Bool → (K → ShownKeeper) → ℕ → Scope → List NameFacts
     → ShownTree → ShownTree → StateFacts K → StateFacts K → PassEnd → Type 0
-EndsPass world told tells shows hands roots listing before after old new (Whole summary) =
-    RunsPass world told hands roots listing before after old new
+EndsPass world told tells shows hands scope listing before after old new (Whole summary) =
+    RunsPass world told hands scope listing before after old new
     (λ found more. IsWholePass world tells shows (plan_of listing (row_names old.rows)) summary new listing)
-EndsPass world told tells shows hands roots listing before after old new (Missed miss) =
-    RunsPass world told hands roots listing before after old new
+EndsPass world told tells shows hands scope listing before after old new (Missed miss) =
+    RunsPass world told hands scope listing before after old new
     (HasMissed miss (Rose before.faults after.faults) listing new)
-EndsPass world told tells shows hands roots listing before after old new (Unwalked fault) =
-    EndsUnwalked told roots before after old new fault
-EndsPass world told tells shows hands roots listing before after old new Broken = ⊥
-EndsPass world told tells shows hands roots listing before after old new KeeperFault =
-    RunsPass world told hands roots listing before after old new (λ found more. new.broken ≡ true)
-    ⊎ EndsPassHelped told hands roots listing before after old new (new.broken ≡ true)
-EndsPass world told tells shows hands roots listing before after old new LogFull =
-    RunsPass world told hands roots listing before after old new (λ found more. IsOutOfRoom new)
-EndsPass world told tells shows hands roots listing before after old new OutOfMemory =
-    EndsPassEarly told roots listing before after old new
-    ⊎ (RunsPass world told hands roots listing before after old new (λ found more. new.broken ≡ false)
-    ⊎ EndsPassHelped told hands roots listing before after old new (new.broken ≡ false))
+EndsPass world told tells shows hands scope listing before after old new (Unwalked fault) =
+    EndsUnwalked told scope before after old new fault
+EndsPass world told tells shows hands scope listing before after old new Broken = ⊥
+EndsPass world told tells shows hands scope listing before after old new KeeperFault =
+    RunsPass world told hands scope listing before after old new (λ found more. new.broken ≡ true)
+    ⊎ EndsPassHelped told hands scope listing before after old new (new.broken ≡ true)
+EndsPass world told tells shows hands scope listing before after old new LogFull =
+    RunsPass world told hands scope listing before after old new (λ found more. IsOutOfRoom new)
+EndsPass world told tells shows hands scope listing before after old new OutOfMemory =
+    EndsPassEarly told scope listing before after old new
+    ⊎ (RunsPass world told hands scope listing before after old new (λ found more. new.broken ≡ false)
+    ⊎ EndsPassHelped told hands scope listing before after old new (new.broken ≡ false))
 
 -- whether a name was missed since its file could not be read
 abbrev pub is_read_fault : Cause → Bool

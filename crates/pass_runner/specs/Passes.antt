@@ -3,6 +3,7 @@ use Rattle.std.specs.Prelude.{◌≡◌, ◌⊎◌, ℕ, Bool, true, false, List
 use Rattle.row_types.specs.Ascends.{IsBefore}
 use Rattle.row_types.specs.Name.{NameFacts, stamp_at}
 use Rattle.row_types.specs.Rules.{Rules}
+use Rattle.path_scope.specs.Scope.{Scope}
 use Rattle.index_keeper.specs.Keeper.{ShownKeeper}
 use Rattle.index_rows.specs.Rows.{row_names}
 use Rattle.index_state.specs.Complete.{CompletePass}
@@ -93,12 +94,12 @@ EndsBegun world told tells shows plan before after old new _ = ⊥
 
 -- a pass over the listing was begun once the other hands had helped, and this came of it
 pub record EndsFound {K : Type 0} (world : Rules) (told tells : Bool) (shows : K → ShownKeeper) (hands : ℕ)
-    (listing : List NameFacts) (roots : List (List ℕ)) (before after : ShownTree) (old new : StateFacts K)
+    (listing : List NameFacts) (scope : Scope) (before after : ShownTree) (old new : StateFacts K)
     (end : PassEnd) : Type 0 where
   pub found : StateFacts K
   pub helped : IsHelped hands listing old found
   pub begun : EndsBegun world told tells shows (plan_of listing (row_names old.rows)) before after
-      (after_begin listing roots found) new end
+      (after_begin listing scope found) new end
 
 -- nothing changed
 pub record StaysSame {K T : Type 0} (before after : T) (old new : StateFacts K) : Type 0 where
@@ -114,13 +115,13 @@ pub record LeavesToHands {K T : Type 0} (hands : ℕ) (listing : List NameFacts)
 
 -- how a pass over the listing ended; memory may be refused before it begins
 abbrev pub EndsOver : {K T : Type 0} → Rules → Bool → Bool → (K → ShownKeeper) → (T → ShownTree) → ℕ → List NameFacts
-    → List (List ℕ) → T → T → StateFacts K → StateFacts K → PassEnd → Type 0
-EndsOver world told tells shows sees hands listing roots before after old new OutOfMemory =
+    → Scope → T → T → StateFacts K → StateFacts K → PassEnd → Type 0
+EndsOver world told tells shows sees hands listing scope before after old new OutOfMemory =
     StaysSame before after old new
-    ⊎ (EndsFound world told tells shows hands listing roots (sees before) (sees after) old new OutOfMemory
+    ⊎ (EndsFound world told tells shows hands listing scope (sees before) (sees after) old new OutOfMemory
     ⊎ LeavesToHands hands listing before after old new (new.broken ≡ false))
-EndsOver world told tells shows sees hands listing roots before after old new KeeperFault =
-    EndsFound world told tells shows hands listing roots (sees before) (sees after) old new KeeperFault
+EndsOver world told tells shows sees hands listing scope before after old new KeeperFault =
+    EndsFound world told tells shows hands listing scope (sees before) (sees after) old new KeeperFault
     ⊎ LeavesToHands hands listing before after old new (new.broken ≡ true)
-EndsOver world told tells shows sees hands listing roots before after old new end =
-    EndsFound world told tells shows hands listing roots (sees before) (sees after) old new end
+EndsOver world told tells shows sees hands listing scope before after old new end =
+    EndsFound world told tells shows hands listing scope (sees before) (sees after) old new end

@@ -1,6 +1,7 @@
 -- Settling (this project's rule): with one hand the names of a pass that are to be read are opened and read, and their rows
 -- published, then the names that are to be looked for are looked for and judged. What is said here holds from one moment
--- of it to any later one.
+-- of it to any later one. The paths that may be looked at are those that the pass has marked; of a pass over folders they are
+-- those in its scope.
 use Rattle.std.specs.Prelude.{◌≡◌, ◌≢◌, ◌⊎◌, ℕ, ◌≤◌, Bool, true, false, List, [], ◌∷◌, ◌++◌, All, Contains, count_by, Option, Some, None}
 use Rattle.std.specs.Str.{bytes_eq}
 use Rattle.row_types.specs.Faults.{Rose}
@@ -11,7 +12,7 @@ use Rattle.row_types.specs.declared.limits.TheConstants.{FILE_LIMIT}
 use Rattle.index_keeper.specs.Keeper.{ShownKeeper}
 use Rattle.index_rows.specs.Rows.{row_names}
 use Rattle.index_state.specs.Bound.{StaysBounded}
-use Rattle.index_state.specs.Judge.{is_under}
+use Rattle.index_state.specs.Marks.{is_marked}
 use Rattle.index_state.specs.State.{StateFacts, pass_or_none}
 use Rattle.scan_queue.specs.Names.{is_in}
 use Rattle.scan_queue.specs.Pass.{PassFacts, missed_names}
@@ -35,27 +36,28 @@ pub record HadNoRow (listing names : List NameFacts) (path : List ℕ) : Type 0 
   pub listed : stamp_at listing path ≡ Some stamp
   pub absent : is_in names (record { path = path; stamp = stamp }) ≡ false
 
--- what may be asked: the opening of a listed file whose name had no row, and reads of it; and a look at a path under a root
-abbrev pub MayBeAsked : List NameFacts → List (List ℕ) → List NameFacts → Heard → Type 0
-MayBeAsked listing roots names (load path limit answer) = ⊥
-MayBeAsked listing roots names (stat path answer) = is_under roots path ≡ true
-MayBeAsked listing roots names (read_dir path answer) = ⊥
-MayBeAsked listing roots names (open_file path limit answer) = (limit ≡ FILE_LIMIT) × HadNoRow listing names path
-MayBeAsked listing roots names (read_at name at answer) = HadNoRow listing names name.path
+-- what may be asked: the opening of a listed file whose name had no row, and reads of it; and a look at a path that
+-- may be looked at
+abbrev pub MayBeAsked : List NameFacts → (List ℕ → Bool) → List NameFacts → Heard → Type 0
+MayBeAsked listing looks names (load path limit answer) = ⊥
+MayBeAsked listing looks names (stat path answer) = looks path ≡ true
+MayBeAsked listing looks names (read_dir path answer) = ⊥
+MayBeAsked listing looks names (open_file path limit answer) = (limit ≡ FILE_LIMIT) × HadNoRow listing names path
+MayBeAsked listing looks names (read_at name at answer) = HadNoRow listing names name.path
 
--- what may be asked of an index at a moment
+-- what may be asked of an index at a moment: its pass says which paths are marked
 abbrev pub Wants : {K : Type 0} → StateFacts K → Heard → Type 0
-Wants state = MayBeAsked (pass_or_none state.pass).listing state.roots (row_names state.rows)
+Wants state = MayBeAsked (pass_or_none state.pass).listing (is_marked state.pass) (row_names state.rows)
 
 -- one thing after the other: a file of at most 64 GiB was opened, and none of its bytes was read but those of its parts; or a look
--- was made at a path under a root
-pub data AreReadingsAndLooks (roots : List (List ℕ)) : List Heard → Type 0 where
-  none_heard : AreReadingsAndLooks roots []
-  one_look : (path : List ℕ) (answer : StatAnswer) (more all : List Heard) → is_under roots path ≡ true
-      → all ≡ stat path answer ∷ more → AreReadingsAndLooks roots more → AreReadingsAndLooks roots all
+-- was made at a path that may be looked at
+pub data AreReadingsAndLooks (looks : List ℕ → Bool) : List Heard → Type 0 where
+  none_heard : AreReadingsAndLooks looks []
+  one_look : (path : List ℕ) (answer : StatAnswer) (more all : List Heard) → looks path ≡ true
+      → all ≡ stat path answer ∷ more → AreReadingsAndLooks looks more → AreReadingsAndLooks looks all
   one_file : (name : NameFacts) (answer : OpenFacts) (reads more all : List Heard)
       → all ≡ heard_reading name answer reads ++ more → All (IsReadOfFile name) reads → AsksParts name reads
-      → AreReadingsAndLooks roots more → AreReadingsAndLooks roots all
+      → AreReadingsAndLooks looks more → AreReadingsAndLooks looks all
 
 -- whether this is a load of the path, or its opening
 abbrev pub is_load_of : List ℕ → Heard → Bool
@@ -85,9 +87,9 @@ pub record IsSeenGone (answers : List Heard) (name : NameFacts) : Type 0 where
   pub heard : Contains answers (stat name.path answer)
   pub missing : IsMissing name.stamp answer
 
--- the row of the name may go where its path isn't listed and lies under a root: a look did not find its file
-abbrev pub MayGo : List NameFacts → List (List ℕ) → List Heard → NameFacts → Type 0
-MayGo listing roots answers name = stamp_at listing name.path ≡ None → is_under roots name.path ≡ true → IsSeenGone answers name
+-- the row of the name may go where its path isn't listed and may be looked at: a look did not find its file
+abbrev pub MayGo : List NameFacts → (List ℕ → Bool) → List Heard → NameFacts → Type 0
+MayGo listing looks answers name = stamp_at listing name.path ≡ None → looks name.path ≡ true → IsSeenGone answers name
 
 -- an opening found another file in place of the listed name's
 pub record IsHeardAltered (listing : List NameFacts) (answers : List Heard) (name : NameFacts) (met : Seen) : Type 0 where
@@ -155,14 +157,14 @@ KeepsListed listing old new =
     → is_in (row_names old) name ≡ true → is_in (row_names new) name ≡ true
 
 -- what a pass does to rows from one moment to a later one, while this was heard: no row of a listed name went; a row whose path
--- isn't listed and lies under a root went only where a look did not find its file; a row that came is of a listed name; and a row
+-- isn't listed and may be looked at went only where a look did not find its file; a row that came is of a listed name; and a row
 -- that wasn't there says what was read. Of two lists of rows, and not of two indexes, since a scan says it of the rows that its
 -- store held and has
-pub record MovesRows (listing : List NameFacts) (roots : List (List ℕ)) (answers : List Heard) (old new : List RowFacts)
+pub record MovesRows (listing : List NameFacts) (looks : List ℕ → Bool) (answers : List Heard) (old new : List RowFacts)
     : Type 0 where
   pub stays : KeepsListed listing old new
   pub goes : (name : NameFacts) → is_in (row_names old) name ≡ true
-      → is_in (row_names new) name ≡ false → MayGo listing roots answers name
+      → is_in (row_names new) name ≡ false → MayGo listing looks answers name
   pub comes : (name : NameFacts) → is_in (row_names new) name ≡ true
       → is_in (row_names old) name ≡ false → is_in listing name ≡ true
   pub brings : All (IsBrought old answers) new
@@ -190,16 +192,16 @@ pub record IsPassOn (old new : Option PassFacts) : Type 0 where
   pub over : into.listing ≡ from.listing
 
 -- where the index went from one moment of the settling to a later one, while this was heard and calls of the hand failed only
--- so: the pass goes on, over the same listing and roots; the rows went and came as in a pass; a name is missed only for a
--- reason, and a listed one that was missed is missed still; no name came to be read; and the log did not grow more than what
--- is open became less, but for a void change
+-- so: the pass goes on, over the same listing and with the same marks; the rows went and came as in a pass; a name is missed
+-- only for a reason, and a listed one that was missed is missed still; no name came to be read; and the log did not grow more
+-- than what is open became less, but for a void change
 pub record Advances {K : Type 0} (shows : K → ShownKeeper) (answers : List Heard) (Failed : Type 0)
     (old new : StateFacts K) : Type 0 where
   pub keeper : (shows old.keeper).faults ≤ (shows new.keeper).faults
   pub pass : IsPassOn old.pass new.pass
-  pub roots : new.roots ≡ old.roots
+  pub marked : (pass_or_none new.pass).marked ≡ (pass_or_none old.pass).marked
   pub origin : new.origin ≡ old.origin
-  pub moves : MovesRows (pass_or_none old.pass).listing old.roots answers old.rows new.rows
+  pub moves : MovesRows (pass_or_none old.pass).listing (is_marked old.pass) answers old.rows new.rows
   pub missed : All (MissesBy old answers Failed) (pass_or_none new.pass).missed
   pub still : MissesStay (pass_or_none old.pass).listing old new
   pub todo : (path : List ℕ)
@@ -213,7 +215,7 @@ pub record Proceeds {K : Type 0} (told : Bool) (version : Versions) (shows : K �
   pub answers : List Heard
   pub listens : Listens told version before after answers
   pub wanted : All (Wants old) answers
-  pub parts : AreReadingsAndLooks old.roots answers
+  pub parts : AreReadingsAndLooks (is_marked old.pass) answers
   pub on : Advances shows answers (Rose before.faults after.faults) old new
   pub altered : AlteredAreMissed (pass_or_none old.pass).listing answers new
 

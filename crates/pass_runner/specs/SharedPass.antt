@@ -9,13 +9,13 @@ use Rattle.row_types.specs.Name.{NameFacts, stamp_at}
 use Rattle.row_types.specs.Row.{RowFacts}
 use Rattle.row_types.specs.Rules.{Rules}
 use Rattle.row_types.specs.declared.limits.TheConstants.{PATH_LIMIT}
+use Rattle.path_scope.specs.Scope.{Scope, is_in_scope}
 use Rattle.index_rows.specs.Log.{replay}
 use Rattle.index_rows.specs.Rows.{row_names}
 use Rattle.index_rows.specs.declared.change.Change.{Change}
 use Rattle.index_rows.specs.declared.rows.TheConstants.{LOG_LIMIT}
 use Rattle.index_state.specs.Changes.{EndsVoid}
 use Rattle.index_state.specs.Complete.{IsScan}
-use Rattle.index_state.specs.Judge.{is_under}
 use Rattle.index_state.specs.Plan.{plan_of}
 use Rattle.scan_queue.specs.Names.{is_in}
 use Rattle.scan_queue.specs.declared.miss.Cause.{Cause}
@@ -42,11 +42,11 @@ use Rattle.pass_runner.specs.declared.pass_end.PassEnd.TheVariants.{KeeperFault,
 use Rattle.pass_runner.specs.declared.summary.Summary.{Summary}
 
 -- what the first hand heard: a whole walk of the roots, and then nothing but openings, up to 64 GiB, reads of what was opened, of
--- each file its parts alone, and looks at paths under a root
-pub record HearsShared (told : Bool) (version : Versions) (roots : List (List ℕ)) (walk : Walk) (walked more : List Heard)
+-- each file its parts alone, and looks at paths in the scope
+pub record HearsShared (told : Bool) (version : Versions) (scope : Scope) (walk : Walk) (walked more : List Heard)
     (before after : ShownTree) : Type 0 where
-  pub walks : HearsWalked told version roots walk walked more before after
-  pub asks : AreReadingsAndLooks roots more
+  pub walks : HearsWalked told version scope walk walked more before after
+  pub asks : AreReadingsAndLooks (is_in_scope scope) more
 
 -- the log is no shorter than the one that was brought, and no longer than the one that came back
 pub record IsBetween (brought log at : List Change) : Type 0 where
@@ -91,17 +91,17 @@ IsMetByHand brought log answers Failed name ReadFault = Failed
 IsMetByHand brought log answers Failed name (Altered met) = HeardInPlace answers name met
 IsMetByHand brought log answers Failed name Appeared = HeardThere brought log answers name
 
--- the path isn't listed, lies under a root, and is no longer than a path that is kept
-pub record IsStray (listing : List NameFacts) (roots : List (List ℕ)) (path : List ℕ) : Type 0 where
+-- the path isn't listed, is in the scope, and is no longer than a path that is kept
+pub record IsStray (listing : List NameFacts) (scope : Scope) (path : List ℕ) : Type 0 where
   pub short : length path ≤ PATH_LIMIT
   pub unlisted : stamp_at listing path ≡ None
-  pub under : is_under roots path ≡ true
+  pub inside : is_in_scope scope path ≡ true
 
--- a name that was missed by another file is listed, with its stamp; one that appeared lies under a root and isn't
-abbrev pub IsOfPass : List NameFacts → List (List ℕ) → NameFacts → Cause → Type 0
-IsOfPass listing roots name ReadFault = Unit {0}
-IsOfPass listing roots name (Altered met) = stamp_at listing name.path ≡ Some name.stamp
-IsOfPass listing roots name Appeared = IsStray listing roots name.path
+-- a name that was missed by another file is listed, with its stamp; one that appeared is in the scope and isn't
+abbrev pub IsOfPass : List NameFacts → Scope → NameFacts → Cause → Type 0
+IsOfPass listing scope name ReadFault = Unit {0}
+IsOfPass listing scope name (Altered met) = stamp_at listing name.path ≡ Some name.stamp
+IsOfPass listing scope name Appeared = IsStray listing scope name.path
 
 -- the name is still open by the log: it is listed and has no row, or has a row and isn't listed
 abbrev pub StillStands : List NameFacts → List Change → NameFacts → Type 0
@@ -109,10 +109,10 @@ StillStands listing log name = is_in (replay log) name ≡ not (is_in listing na
 
 -- the first hand missed the name itself, by this cause; it is still open by the log that came back, which doesn't end in a
 -- void change
-pub record IsOwnMiss (listing : List NameFacts) (roots : List (List ℕ)) (brought log : List Change) (answers : List Heard)
+pub record IsOwnMiss (listing : List NameFacts) (scope : Scope) (brought log : List Change) (answers : List Heard)
     (Failed : Type 0) (miss : Miss) : Type 0 where
   pub why : IsMetByHand brought log answers Failed miss.name miss.cause
-  pub of_pass : IsOfPass listing roots miss.name miss.cause
+  pub of_pass : IsOfPass listing scope miss.name miss.cause
   pub stands : StillStands listing log miss.name
   pub sound : ¬ EndsVoid log
 
@@ -134,47 +134,47 @@ pub record HasNoRoom (listing : List NameFacts) (log : List Change) : Type 0 whe
   pub sound : ¬ EndsVoid log
 
 -- how a pass over a listing ends
-abbrev pub EndsListed : Rules → List NameFacts → List (List ℕ) → List Change → List Change → List Heard → Type 0 → PassEnd
+abbrev pub EndsListed : Rules → List NameFacts → Scope → List Change → List Change → List Heard → Type 0 → PassEnd
     → Type 0
-EndsListed world listing roots brought log answers Failed (Whole summary) = IsOneScan world listing brought log summary
-EndsListed world listing roots brought log answers Failed (Missed miss) =
-    IsOwnMiss listing roots brought log answers Failed miss
-EndsListed world listing roots brought log answers Failed (Unwalked fault) = ⊥
-EndsListed world listing roots brought log answers Failed Broken = IsBrokenAtOnce log answers
-EndsListed world listing roots brought log answers Failed KeeperFault = BreaksSince brought log
-EndsListed world listing roots brought log answers Failed LogFull = HasNoRoom listing log
-EndsListed world listing roots brought log answers Failed OutOfMemory = Unit {0}
+EndsListed world listing scope brought log answers Failed (Whole summary) = IsOneScan world listing brought log summary
+EndsListed world listing scope brought log answers Failed (Missed miss) =
+    IsOwnMiss listing scope brought log answers Failed miss
+EndsListed world listing scope brought log answers Failed (Unwalked fault) = ⊥
+EndsListed world listing scope brought log answers Failed Broken = IsBrokenAtOnce log answers
+EndsListed world listing scope brought log answers Failed KeeperFault = BreaksSince brought log
+EndsListed world listing scope brought log answers Failed LogFull = HasNoRoom listing log
+EndsListed world listing scope brought log answers Failed OutOfMemory = Unit {0}
 
 -- the roots were walked, and the pass over what was listed ended so
-pub record RunsShared (world : Rules) (told : Bool) (roots : List (List ℕ)) (brought log : List Change)
+pub record RunsShared (world : Rules) (told : Bool) (scope : Scope) (brought log : List Change)
     (before after : ShownTree) (end : PassEnd) : Type 0 where
   pub walk : Walk
   pub walked : List Heard
   pub more : List Heard
-  pub hears : HearsShared told world.version roots walk walked more before after
-  pub ends : EndsListed world walk.listing roots brought log more (Rose before.faults after.faults) end
+  pub hears : HearsShared told world.version scope walk walked more before after
+  pub ends : EndsListed world walk.listing scope brought log more (Rose before.faults after.faults) end
 
 -- the roots could not be walked: the token saw nothing new
-pub record StopsShared (told : Bool) (roots : List (List ℕ)) (brought log : List Change) (before after : ShownTree)
+pub record StopsShared (told : Bool) (scope : Scope) (brought log : List Change) (before after : ShownTree)
     (fault : WalkFault) : Type 0 where
-  pub stops : WalksInto told roots fault before after
+  pub stops : WalksInto told scope fault before after
   pub same : log ≡ brought
 
 -- how a pass over a shared index ends
-abbrev pub EndsShared : Rules → Bool → List (List ℕ) → List Change → List Change → ShownTree → ShownTree → PassEnd → Type 0
-EndsShared world told roots brought log before after (Unwalked fault) =
-    StopsShared told roots brought log before after fault
-EndsShared world told roots brought log before after end = RunsShared world told roots brought log before after end
+abbrev pub EndsShared : Rules → Bool → Scope → List Change → List Change → ShownTree → ShownTree → PassEnd → Type 0
+EndsShared world told scope brought log before after (Unwalked fault) =
+    StopsShared told scope brought log before after fault
+EndsShared world told scope brought log before after end = RunsShared world told scope brought log before after end
 
 -- nothing stands against the pass: its first hand tells files that never change, and its count didn't rise; something is at
 -- each root; there is not too much; and the log that came back has room
-pub record IsUnhinderedPass (told : Bool) (roots : List (List ℕ)) (log : List Change) (before after : ShownTree)
+pub record IsUnhinderedPass (told : Bool) (scope : Scope) (log : List Change) (before after : ShownTree)
     : Type 0 where
   pub still : TellsStill told before
   pub faultless : ¬ Rose before.faults after.faults
-  pub there : (path : List ℕ) → Contains roots path → ¬ IsNothingAt before.present path
-  pub files : ¬ HasManyFiles before.present roots
-  pub entries : ¬ HasManyEntries before.present roots
+  pub there : (path : List ℕ) → Contains scope.roots path → ¬ IsNothingAt before.present path
+  pub files : ¬ HasManyFiles before.present scope
+  pub entries : ¬ HasManyEntries before.present scope
   pub room : length log < LOG_LIMIT
 
 -- the pass is whole, or the log that came back ends in a void change, or memory was refused

@@ -4,7 +4,6 @@ use Rattle.row_types.specs.Faults.{HasCause, Rose}
 use Rattle.row_types.specs.Name.{NameFacts}
 use Rattle.row_types.specs.Row.{RowFacts}
 use Rattle.index_keeper.specs.Keeper.{ShownKeeper}
-use Rattle.index_state.specs.Judge.{is_under}
 use Rattle.index_state.specs.State.{StateFacts, pass_or_none}
 use Rattle.index_state.specs.Step.{Breaks, FindsNoMemory, IsShut, Judges, StateStays, Stores}
 use Rattle.index_state.specs.declared.answer.Judged.{Judged}
@@ -81,21 +80,21 @@ pub record HasSeenFile (answers : List Heard) (name : NameFacts) (met : Seen) : 
   pub heard : Contains answers (stat name.path answer)
   pub saw : looked_of answer ≡ looked.Saw met
 
--- what a look leads to; at a path under no root none was made
+-- what a look leads to; at a path that isn't marked none was made
 abbrev pub LooksTo : Bool → List Heard → NameFacts → Type 0 → Looked → Type 0
-LooksTo under answers name Failed (looked.Saw met) = under ≡ true → HasSeenFile answers name met
-LooksTo under answers name Failed looked.Failed = Failed
-LooksTo under answers name Failed looked.OutOfMemory = Unit {0}
+LooksTo marked answers name Failed (looked.Saw met) = marked ≡ true → HasSeenFile answers name met
+LooksTo marked answers name Failed looked.Failed = Failed
+LooksTo marked answers name Failed looked.OutOfMemory = Unit {0}
 
--- a look at a path under a root
-abbrev pub IsLookUnder : List (List ℕ) → Heard → Type 0
-IsLookUnder roots (stat path answer) = is_under roots path ≡ true
-IsLookUnder roots _ = ⊥
+-- a look at a path that may be looked at
+abbrev pub IsLookAmong : (List ℕ → Bool) → Heard → Type 0
+IsLookAmong looks (stat path answer) = looks path ≡ true
+IsLookAmong looks _ = ⊥
 
--- the file of a row was looked for
-pub record LooksForFile (told : Bool) (version : Versions) (roots : List (List ℕ)) (name : NameFacts)
+-- the file of a row was looked for, where its path may be looked at
+pub record LooksForFile (told : Bool) (version : Versions) (looks : List ℕ → Bool) (name : NameFacts)
     (before after : ShownTree) (end : Looked) : Type 0 where
   pub answers : List Heard
   pub listens : Listens told version before after answers
-  pub asked : All (IsLookUnder roots) answers
-  pub leads : LooksTo (is_under roots name.path) answers name (Rose before.faults after.faults) end
+  pub asked : All (IsLookAmong looks) answers
+  pub leads : LooksTo (looks name.path) answers name (Rose before.faults after.faults) end

@@ -3,6 +3,7 @@
 ghost use Rattle.std.specs.Prelude.{◌≡◌, ◌⊎◌, ℕ, ◌+◌, ◌<◌, ◌≤◌, [], false, vec_capacity, vec_len};
 ghost use Rattle.std.specs.Prelude.{IfOk, IsTrue};
 ghost use Rattle.std.specs.List.{AllZip, filter};
+ghost use Rattle.path_scope.specs.Scope.{scope_of};
 ghost use Rattle.row_types.specs.Rules.{rules};
 ghost use Rattle.index_rows.specs.Rows.{row_names};
 ghost use Rattle.tree_trait.specs.Shown.{HandsOn};
@@ -21,6 +22,7 @@ use index_desk::Ground;
 use index_keeper::Keeper;
 use index_state::{Begun, Plan, State, show_index};
 use lock_crew::{Slot, rooms};
+use path_scope::Selection;
 use row_types::{CanonPath, Truth};
 use scan_queue::Listing;
 use std::alloc::{AllocError, Global};
@@ -44,6 +46,7 @@ pub(crate) fn scan_beside<
     W: Truth + Send + Sync,
     K: Keeper<W>,
     T: Tree<W>,
+    P: Selection,
     R: Reader<W> + Sync,
     G: Gate,
     Rt: Threads + Wait + Sync,
@@ -53,12 +56,13 @@ pub(crate) fn scan_beside<
     hands: Vec<T>,
     listing: Listing,
     roots: &[CanonPath],
+    select: &mut P,
 ) -> (State<W, K>, Vec<T>, PassEnd)
     requires hands { 1 < vec_len hands }
     requires sound { state.broken ≡ false }
     ensures over { HandsGo
         (λ hand later. EndsOver (rules W.version W.true_row W.told) T.told K.told K.shows T.shows
-        (vec_len hands) listing roots.now hand later state result.0 result.2)
+        (vec_len hands) listing (scope_of roots.now (P.takes select.old)) hand later state result.0 result.2)
         (λ hand later. Helps T.told W.version listing (row_names state.rows) (T.shows hand)
         (T.shows later)) hands.items result.1.items }
     ensures hands { HandsGo
@@ -68,6 +72,7 @@ pub(crate) fn scan_beside<
         hands.items result.1.items }
     ensures loads { LoadsBeside T.shows hands.items result.1.items result.2 }
     ensures keeper { result.2 ≡ PassEnd.KeeperFault → 0 < (K.shows result.0.keeper).faults }
+    ensures same { P.takes select.new ≡ P.takes select.old }
 {
     let many = hands.len() > 2;
     let Ok(needs) = needs_of(ground.alloc, &listing, roots, hands.len()) else {
@@ -82,7 +87,7 @@ pub(crate) fn scan_beside<
             },
         ) => {
             let (state, first, helpers, end) = scan_parts(
-                ground, state, first, helpers, listing, needs,
+                ground, state, first, helpers, listing, needs, select,
             );
             let (hands, asked) = together(first, helpers, room);
             (state, hands, weighed(end, asked, many))
@@ -118,6 +123,7 @@ fn scan_parts<
     W: Truth + Send + Sync,
     K: Keeper<W>,
     T: Tree<W>,
+    P: Selection,
     R: Reader<W> + Sync,
     G: Gate,
     Rt: Threads + Wait + Sync,
@@ -128,6 +134,7 @@ fn scan_parts<
     helpers: Vec<Helper<T>>,
     listing: Listing,
     needs: Needs<W, K, T>,
+    select: &mut P,
 ) -> (State<W, K>, T, Vec<Helper<T>>, PassEnd)
     requires sound { state.broken ≡ false }
     requires again { (needs.roots_again.items ≡ needs.roots.items)
@@ -137,7 +144,7 @@ fn scan_parts<
         × (vec_len helpers ≤ vec_capacity needs.back) }
     ensures over { (hands : ℕ) → 1 < hands
         → EndsOver (rules W.version W.true_row W.told) T.told K.told K.shows T.shows
-        hands listing needs.roots.items first result.1 state result.0 result.3 }
+        hands listing (scope_of needs.roots.items (P.takes select.old)) first result.1 state result.0 result.3 }
     ensures helped { AllZip (HelpedFrom T.shows T.told W.version
         (filter (is_in (row_names state.rows)) listing)) helpers.items result.2.items
         ⊎ ((result.2.items ≡ helpers.items) × (is_whole result.3 ≡ false)) }
@@ -145,6 +152,7 @@ fn scan_parts<
         ⊥ (IsTrue (is_hand_fault result.3)) }
     ensures count { vec_len result.2 ≡ vec_len helpers }
     ensures keeper { result.3 ≡ PassEnd.KeeperFault → 0 < (K.shows result.0.keeper).faults }
+    ensures same { P.takes select.new ≡ P.takes select.old }
 {
     let Needs {
         roots,
@@ -154,7 +162,7 @@ fn scan_parts<
         back,
     } = needs;
     let mut state = state;
-    match state.begin(ground.alloc, listing, roots) {
+    match state.begin(ground.alloc, listing, roots, select) {
         Begun::Begun(plan) => {
             state.spare();
             // For its clause: the log leaves the names of the rows.
@@ -170,6 +178,7 @@ fn scan_parts<
                         &mut first,
                         listing_again,
                         roots_again,
+                        select,
                         &plan,
                         ground.reader,
                     );
@@ -185,42 +194,46 @@ fn scan_parts<
 
 /// Begins a pass over the listing again, and settles it. The last call is made for its clause: the
 /// keeper of an index that is broken has counted a fault.
-fn settle_again<W: Truth, K: Keeper<W>, T: Tree<W>, R: Reader<W>>(
+fn settle_again<W: Truth, K: Keeper<W>, T: Tree<W>, P: Selection, R: Reader<W>>(
     alloc: Global,
     state: &mut State<W, K>,
     hand: &mut T,
     listing: Listing,
     roots: Vec<CanonPath>,
+    select: &mut P,
     plan: &Plan,
     reader: &R,
 ) -> PassEnd
     ensures again { EndsAgain (rules W.version W.true_row W.told) T.told K.told K.shows T.shows
-        plan.now listing roots.items hand.old hand.new state.old state.new result }
+        plan.now listing (scope_of roots.items (P.takes select.old)) hand.old hand.new state.old state.new result }
     ensures hand { HandsOn T.told W.version (T.shows hand.old) (T.shows hand.new)
         ⊥ (IsTrue (is_hand_fault result)) }
     ensures keeper { result ≡ PassEnd.KeeperFault → 0 < (K.shows state.new.keeper).faults }
+    ensures same { P.takes select.new ≡ P.takes select.old }
 {
-    let end = begin_again(alloc, state, hand, listing, roots, plan, reader);
+    let end = begin_again(alloc, state, hand, listing, roots, select, plan, reader);
     show_index(state);
     end
 }
 
 /// Begins a pass over the listing again, and settles it.
-fn begin_again<W: Truth, K: Keeper<W>, T: Tree<W>, R: Reader<W>>(
+fn begin_again<W: Truth, K: Keeper<W>, T: Tree<W>, P: Selection, R: Reader<W>>(
     alloc: Global,
     state: &mut State<W, K>,
     hand: &mut T,
     listing: Listing,
     roots: Vec<CanonPath>,
+    select: &mut P,
     plan: &Plan,
     reader: &R,
 ) -> PassEnd
     ensures again { EndsAgain (rules W.version W.true_row W.told) T.told K.told K.shows T.shows
-        plan.now listing roots.items hand.old hand.new state.old state.new result }
+        plan.now listing (scope_of roots.items (P.takes select.old)) hand.old hand.new state.old state.new result }
     ensures hand { HandsOn T.told W.version (T.shows hand.old) (T.shows hand.new)
         ⊥ (IsTrue (is_hand_fault result)) }
+    ensures same { P.takes select.new ≡ P.takes select.old }
 {
-    match state.begin(alloc, listing, roots) {
+    match state.begin(alloc, listing, roots, select) {
         Begun::Begun(_) => settle_begun(alloc, state, hand, plan, reader),
         Begun::Broken => PassEnd::KeeperFault,
         Begun::OutOfMemory => PassEnd::OutOfMemory,

@@ -2,6 +2,7 @@
 
 ghost use Rattle.std.specs.Prelude.{◌≡◌, ◌⊎◌, ◌<◌, ◌≤◌, [], drop, vec_capacity, vec_len, IsTrue, None};
 ghost use Rattle.std.specs.List.{AllZip};
+ghost use Rattle.path_scope.specs.Scope.{scope_of};
 ghost use Rattle.row_types.specs.Rules.{rules};
 ghost use Rattle.index_lock.specs.Tokens.{IsLater};
 ghost use Rattle.tree_trait.specs.Shown.{HandsOn};
@@ -20,6 +21,7 @@ use crate::pass_end::PassEnd;
 use index_desk::{Desk, Ground};
 use index_keeper::Keeper;
 use index_state::{Begun, Plan};
+use path_scope::Selection;
 use row_types::{CanonPath, Truth};
 use scan_queue::Listing;
 use std::sync::Wait;
@@ -32,6 +34,7 @@ pub(crate) fn pass_listed<
     W: Truth + Send + Sync,
     K: Keeper<W>,
     T: Tree<W>,
+    P: Selection,
     R: Reader<W> + Sync,
     G: Gate,
     Rt: Threads + Wait + Sync,
@@ -41,13 +44,14 @@ pub(crate) fn pass_listed<
     hands: Vec<T>,
     listing: Listing,
     roots: &[CanonPath],
+    select: &mut P,
 ) -> (Desk<'a, W, K>, Vec<T>, PassEnd)
     requires hand { 0 < vec_len hands }
     requires spared { desk.seat.origin.sparing ≡ None }
     ensures later { IsLater desk.entry.seat result.0.seat }
     ensures over { HandsGo
-        (λ hand later. LeadsPass (rules W.version W.true_row W.told) T.told listing roots.now
-        desk.entry.seat.seen result.0.seat.seen (T.shows hand) (T.shows later) result.2)
+        (λ hand later. LeadsPass (rules W.version W.true_row W.told) T.told listing
+        (scope_of roots.now (P.takes select.old)) desk.entry.seat.seen result.0.seat.seen (T.shows hand) (T.shows later) result.2)
         (λ hand later. Helps T.told W.version [] [] (T.shows hand) (T.shows later))
         hands.items result.1.items }
     ensures hands { HandsGo
@@ -56,6 +60,7 @@ pub(crate) fn pass_listed<
         (λ hand later. HandsOn T.told W.version (T.shows hand) (T.shows later) ⊥ ⊥)
         hands.items result.1.items }
     ensures idle { result.2 ≡ PassEnd.Broken → drop 1 result.1.items ≡ drop 1 hands.items }
+    ensures same { P.takes select.new ≡ P.takes select.old }
 {
     let Ok(needs) = needs_of(ground.alloc, &listing, roots, hands.len()) else {
         return (desk, hands, PassEnd::OutOfMemory);
@@ -69,7 +74,7 @@ pub(crate) fn pass_listed<
             },
         ) => {
             let (desk, first, helpers, end) = pass_parts(
-                ground, desk, first, helpers, listing, needs,
+                ground, desk, first, helpers, listing, needs, select,
             );
             let (hands, _asked) = together(first, helpers, room);
             (desk, hands, end)
@@ -84,6 +89,7 @@ fn pass_parts<
     W: Truth + Send + Sync,
     K: Keeper<W>,
     T: Tree<W>,
+    P: Selection,
     R: Reader<W> + Sync,
     G: Gate,
     Rt: Threads + Wait + Sync,
@@ -94,6 +100,7 @@ fn pass_parts<
     helpers: Vec<Helper<T>>,
     listing: Listing,
     needs: Needs<W, K, T>,
+    select: &mut P,
 ) -> (Desk<'a, W, K>, T, Vec<Helper<T>>, PassEnd)
     requires spared { desk.seat.origin.sparing ≡ None }
     requires again { (needs.roots_again.items ≡ needs.roots.items)
@@ -102,12 +109,13 @@ fn pass_parts<
     requires room { (vec_len helpers ≤ vec_capacity needs.slots)
         × (vec_len helpers ≤ vec_capacity needs.back) }
     ensures later { IsLater desk.entry.seat result.0.seat }
-    ensures over { LeadsPass (rules W.version W.true_row W.told) T.told listing needs.roots.items
-        desk.entry.seat.seen result.0.seat.seen (T.shows first) (T.shows result.1) result.3 }
+    ensures over { LeadsPass (rules W.version W.true_row W.told) T.told listing
+        (scope_of needs.roots.items (P.takes select.old)) desk.entry.seat.seen result.0.seat.seen (T.shows first) (T.shows result.1) result.3 }
     ensures helped { AllZip (HelpedFrom T.shows T.told W.version []) helpers.items result.2.items
         ⊎ (result.2.items ≡ helpers.items) }
     ensures count { vec_len result.2 ≡ vec_len helpers }
     ensures idle { result.3 ≡ PassEnd.Broken → result.2.items ≡ helpers.items }
+    ensures same { P.takes select.new ≡ P.takes select.old }
 {
     let Needs {
         roots,
@@ -116,7 +124,7 @@ fn pass_parts<
         slots,
         back,
     } = needs;
-    let (desk, begun) = begin_one(ground.rt, ground.alloc, desk, listing, roots);
+    let (desk, begun) = begin_one(ground.rt, ground.alloc, desk, listing, roots, select);
     match begun {
         Begun::Begun(plan) => {
             let (desk, helpers) = run_crew(ground, desk, helpers, (slots, back));
@@ -127,6 +135,7 @@ fn pass_parts<
                 &mut first,
                 listing_again,
                 roots_again,
+                select,
                 &plan,
             );
             (desk, first, helpers, end)
@@ -137,27 +146,30 @@ fn pass_parts<
 }
 
 /// Lets the first hand settle what is left of a pass, and decides how it ended.
-fn settle_last<'a, W: Truth, K: Keeper<W>, T: Tree<W>, R: Reader<W>, G, Rt: Wait>(
+fn settle_last<'a, W: Truth, K: Keeper<W>, T: Tree<W>, P: Selection, R: Reader<W>, G, Rt: Wait>(
     ground: Ground<'_, R, G, Rt>,
     desk: Desk<'a, W, K>,
     hand: &mut T,
     listing: Listing,
     roots: Vec<CanonPath>,
+    select: &mut P,
     plan: &Plan,
 ) -> (Desk<'a, W, K>, PassEnd)
     requires { desk.seat.origin.sparing ≡ None }
     ensures later { IsLater desk.entry.seat result.0.seat }
-    ensures over { SettlesLast (rules W.version W.true_row W.told) T.told listing roots.items
-        plan.now desk.entry.seat.seen result.0.seat.seen (T.shows hand.old) (T.shows hand.new)
+    ensures over { SettlesLast (rules W.version W.true_row W.told) T.told listing
+        (scope_of roots.items (P.takes select.old)) plan.now desk.entry.seat.seen result.0.seat.seen (T.shows hand.old) (T.shows hand.new)
         result.1 }
+    ensures same { P.takes select.new ≡ P.takes select.old }
 {
-    let (desk, met) = settle_shared(ground, desk, hand, roots.as_slice());
+    let (desk, met) = settle_shared(ground, desk, hand, roots.as_slice(), select);
     end_one(
         ground.rt,
         ground.alloc,
         desk,
         listing,
         roots,
+        select,
         plan,
         met.as_slice(),
     )

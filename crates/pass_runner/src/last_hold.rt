@@ -1,10 +1,10 @@
 //! How a pass over a shared index ends, by its last hold.
 
 ghost use Rattle.std.specs.Prelude.{◌≡◌, Contains, IfSome, IsSome, IsTrue, Some, None};
+ghost use Rattle.path_scope.specs.Scope.{scope_of};
 ghost use Rattle.index_desk.specs.Holds.{LogGoesOn as GoesOn};
 ghost use Rattle.index_lock.specs.Tokens.{IsLater};
 ghost use Rattle.index_rows.specs.Rows.{row_names};
-ghost use Rattle.index_state.specs.Judge.{is_under};
 ghost use Rattle.index_state.specs.Plan.{has_stamp};
 ghost use Rattle.row_types.specs.Name.{stamp_at};
 ghost use Rattle.row_types.specs.Rules.{rules};
@@ -13,12 +13,13 @@ ghost use Rattle.pass_runner.specs.SharedPass.{IsOfPass, IsStray};
 
 use crate::owned::copy_miss;
 use crate::pass_end::PassEnd;
+use crate::scope::is_in_scope;
 use crate::summary::summary_of;
-use index_desk::{Desk, act_once};
+use index_desk::Desk;
 use index_keeper::Keeper;
 use index_rows::LOG_LIMIT;
 use index_state::{Begun, Plan, Standing, State, show_index};
-use path_canon::is_under;
+use path_scope::Selection;
 use row_types::{CanonPath, Name, Stamp, Truth};
 use scan_queue::{Cause, Listing, Miss};
 use std::alloc::Global;
@@ -26,68 +27,70 @@ use std::sync::Wait;
 
 /// Decides how a pass ended, in one hold: by a plan over a copy of its listing, and then by the
 /// first name that was missed, if it is still open and the hand that leads missed it itself.
-pub(crate) fn end_one<'a, W: Truth, K: Keeper<W>, Rt: Wait>(
+pub(crate) fn end_one<'a, W: Truth, K: Keeper<W>, P: Selection, Rt: Wait>(
     rt: &Rt,
     alloc: Global,
     desk: Desk<'a, W, K>,
     listing: Listing,
     roots: Vec<CanonPath>,
+    select: &mut P,
     plan: &Plan,
     met: &[Miss],
 ) -> (Desk<'a, W, K>, PassEnd)
     requires { desk.seat.origin.sparing ≡ None }
     ensures later { IsLater desk.entry.seat result.0.seat }
-    ensures shows { LastShows (rules W.version W.true_row W.told) listing roots.items plan.now
-        met.now result.0.seat.seen result.1 }
+    ensures shows { LastShows (rules W.version W.true_row W.told) listing
+        (scope_of roots.items (P.takes select.old)) plan.now met.now result.0.seat.seen result.1 }
+    ensures same { P.takes select.new ≡ P.takes select.old }
 {
     let Desk { lock, seat } = desk;
-    let (seat, end) = act_once(
-        rt,
-        lock,
-        seat,
-        move |state: &mut State<W, K>|
-            requires { state.old.origin.sparing ≡ None }
-        { end_held(alloc, state, listing, roots, plan, met) },
-    );
+    // Not by a closure: nothing would be known of the selection once it was called.
+    let mut held = lock.enter(rt, seat);
+    let end = end_held(alloc, held.value_mut(), listing, roots, select, plan, met);
+    let seat = lock.leave(held);
     (Desk { lock, seat }, end)
 }
 
 /// Decides how a pass ended in an index that is held and of which no name was spared.
-fn end_held<W: Truth, K: Keeper<W>>(
+fn end_held<W: Truth, K: Keeper<W>, P: Selection>(
     alloc: Global,
     state: &mut State<W, K>,
     listing: Listing,
     roots: Vec<CanonPath>,
+    select: &mut P,
     plan: &Plan,
     met: &[Miss],
 ) -> PassEnd
     requires spared { state.old.origin.sparing ≡ None }
     ensures goes_on { GoesOn state.old state.new }
-    ensures shows { LastShows (rules W.version W.true_row W.told) listing roots.items plan.now
-        met.now state.new.log result }
+    ensures shows { LastShows (rules W.version W.true_row W.told) listing
+        (scope_of roots.items (P.takes select.old)) plan.now met.now state.new.log result }
+    ensures same { P.takes select.new ≡ P.takes select.old }
 {
     // For its clause: where no name was spared, none is skipped.
     let _rows = state.rows();
-    let own = own_miss(alloc, state, met, &listing, roots.as_slice());
-    let end = begin_last(alloc, state, listing, roots, plan, own);
+    let own = own_miss(alloc, state, met, &listing, roots.as_slice(), select);
+    let end = begin_last(alloc, state, listing, roots, select, plan, own);
     // For its clause: the log leaves the names of the rows, and shows whether the index is broken.
     show_index(state);
     end
 }
 
 /// Begins a pass again, and decides how it ended.
-fn begin_last<W: Truth, K: Keeper<W>>(
+fn begin_last<W: Truth, K: Keeper<W>, P: Selection>(
     alloc: Global,
     state: &mut State<W, K>,
     listing: Listing,
     roots: Vec<CanonPath>,
+    select: &mut P,
     plan: &Plan,
     own: Option<Miss>,
 ) -> PassEnd
-    ensures { BeginsLast (rules W.version W.true_row W.told) K.told K.shows listing roots.items
-        plan.now own state.old state.new result }
+    ensures begins { BeginsLast (rules W.version W.true_row W.told) K.told K.shows listing
+        (scope_of roots.items (P.takes select.old)) plan.now own state.old state.new result }
+    ensures same { P.takes select.new ≡ P.takes select.old }
 {
-    match state.begin(alloc, listing, roots) {
+    match state.begin(alloc, listing, roots, select) {
         Begun::Begun(_) => end_begun(state, plan, own),
         Begun::Broken => PassEnd::KeeperFault,
         Begun::OutOfMemory => PassEnd::OutOfMemory,
@@ -122,24 +125,27 @@ fn is_done(standing: &Standing) -> bool
 
 /// The first name that was missed, if it is one of the pass and still open, the hand that leads
 /// missed it itself, and memory was there for it.
-fn own_miss<W: Truth, K: Keeper<W>>(
+fn own_miss<W: Truth, K: Keeper<W>, P: Selection>(
     alloc: Global,
     state: &State<W, K>,
     met: &[Miss],
     listing: &Listing,
     roots: &[CanonPath],
+    select: &mut P,
 ) -> Option<Miss>
     ensures among { IfSome result (λ miss. Contains met.now miss) }
-    ensures of_pass { IfSome result (λ miss. IsOfPass listing.now roots.now miss.name miss.cause) }
+    ensures of_pass { IfSome result (λ miss. IsOfPass listing.now
+        (scope_of roots.now (P.takes select.old)) miss.name miss.cause) }
     ensures stands { IfSome result (λ miss. IsOpenBy listing.now (row_names state.now.rows)
         miss.name) }
+    ensures same { P.takes select.new ≡ P.takes select.old }
 {
     let Some(first) = state.first_miss() else {
         return None;
     };
     for miss in met {
         if miss.name == first.name && miss.cause == first.cause {
-            if !is_of_pass(miss.cause, &miss.name, listing, roots) {
+            if !is_of_pass(alloc, miss, listing, roots, select) {
                 return None;
             }
             if !is_still_open(state, &miss.name, listing) {
@@ -185,14 +191,22 @@ fn is_stamp(found: Option<Stamp>, stamp: Stamp) -> bool
 }
 
 /// Whether a name that was missed by another file is listed with its stamp, and one that appeared
-/// lies under a root and isn't.
-fn is_of_pass(cause: Cause, name: &Name, listing: &Listing, roots: &[CanonPath]) -> bool
-    ensures { IsTrue result → IsOfPass listing.now roots.now name.now cause }
+/// is in the scope of the pass and isn't; and there was memory to ask for that.
+fn is_of_pass<P: Selection>(
+    alloc: Global,
+    miss: &Miss,
+    listing: &Listing,
+    roots: &[CanonPath],
+    select: &mut P,
+) -> bool
+    ensures of_pass { IsTrue result → IsOfPass listing.now
+        (scope_of roots.now (P.takes select.old)) miss.now.name miss.now.cause }
+    ensures same { P.takes select.new ≡ P.takes select.old }
 {
-    match cause {
+    match miss.cause {
         Cause::ReadFault => true,
-        Cause::Altered { .. } => is_listed(name, listing),
-        Cause::Appeared => is_stray(&name.path, listing, roots),
+        Cause::Altered { .. } => is_listed(&miss.name, listing),
+        Cause::Appeared => is_stray(alloc, &miss.name.path, listing, roots, select),
     }
 }
 
@@ -206,21 +220,25 @@ fn is_listed(name: &Name, listing: &Listing) -> bool
     }
 }
 
-/// Whether the path isn't listed, and lies under a root.
-fn is_stray(path: &CanonPath, listing: &Listing, roots: &[CanonPath]) -> bool
-    ensures { IsTrue result → IsStray listing.now roots.now path.now }
+/// Whether the path isn't listed and is in the scope of the pass, and there was memory to ask.
+fn is_stray<P: Selection>(
+    alloc: Global,
+    path: &CanonPath,
+    listing: &Listing,
+    roots: &[CanonPath],
+    select: &mut P,
+) -> bool
+    ensures stray { IsTrue result → IsStray listing.now (scope_of roots.now (P.takes select.old))
+        path.now }
+    ensures same { P.takes select.new ≡ P.takes select.old }
 {
     // For its clause: the path is no longer than one that is kept.
     let _text = path.text();
     match listing.stamp_of(path) {
         Some(_) => false,
-        None => is_under_any(roots, path),
+        None => match is_in_scope(alloc, roots, select, path) {
+            Ok(inside) => inside,
+            Err(_) => false,
+        },
     }
-}
-
-/// Whether the path is that of a root, or lies under one.
-pub(crate) fn is_under_any(roots: &[CanonPath], path: &CanonPath) -> bool
-    ensures { result ≡ is_under roots.now path.now }
-{
-    roots.iter().any(|root| is_under(path, root))
 }

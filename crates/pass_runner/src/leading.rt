@@ -1,17 +1,18 @@
 //! What the hand that leads a pass settles itself over a shared index.
 
-ghost use Rattle.std.specs.Prelude.{◌≡◌, ℕ, List, [], true};
+ghost use Rattle.std.specs.Prelude.{◌≡◌, [], true};
 ghost use Rattle.std.specs.Bool.{OnFalse};
 ghost use Rattle.index_lock.specs.Tokens.{IsLater};
-ghost use Rattle.index_state.specs.Judge.{is_under};
+ghost use Rattle.path_scope.specs.Scope.{Scope, is_in_scope, scope_of};
 ghost use Rattle.pass_runner.specs.Leading.{LeadsInSettling, MayNote, MayNoteThere};
 
 use crate::holds::{is_open, judge_one};
-use crate::last_hold::is_under_any;
+use crate::scope::is_in_scope;
 use groomer::{Looked, look};
 use index_desk::{Desk, Ground};
 use index_keeper::Keeper;
 use index_state::{GroomTask, Judged};
+use path_scope::Selection;
 use row_types::{CanonPath, Name, Truth};
 use scan_queue::{Cause, Miss, Seen};
 use scan_worker::{NameRead, read_name};
@@ -21,16 +22,27 @@ use tree_trait::{Reader, Tree};
 
 /// Tries again what is left of a pass with the hand that leads it: the listed files without a row
 /// are read, and the rows that are no longer listed are judged by looks at their paths, which are
-/// made under these roots alone. What the hand missed itself is told. How it ends isn't: the pass
-/// shows what is left.
-pub(crate) fn settle_shared<'a, W: Truth, K: Keeper<W>, T: Tree<W>, R: Reader<W>, G, Rt: Wait>(
+/// made in the scope of this pass alone. What the hand missed itself is told. How it ends isn't: the
+/// pass shows what is left.
+pub(crate) fn settle_shared<
+    'a,
+    W: Truth,
+    K: Keeper<W>,
+    T: Tree<W>,
+    P: Selection,
+    R: Reader<W>,
+    G,
+    Rt: Wait,
+>(
     ground: Ground<'_, R, G, Rt>,
     desk: Desk<'a, W, K>,
     hand: &mut T,
     roots: &[CanonPath],
+    select: &mut P,
 ) -> (Desk<'a, W, K>, Vec<Miss>)
-    ensures { LeadsInSettling T.told W.version roots.now desk.entry.seat (T.shows hand.old) result.0.seat
-        (T.shows hand.new) [] result.1.items }
+    ensures leads { LeadsInSettling T.told W.version (scope_of roots.now (P.takes select.old))
+        desk.entry.seat (T.shows hand.old) result.0.seat (T.shows hand.new) [] result.1.items }
+    ensures same { P.takes select.new ≡ P.takes select.old }
 {
     let mut met = Vec::new(ground.alloc);
     let (desk, ready) = desk.retry(ground.rt);
@@ -38,7 +50,7 @@ pub(crate) fn settle_shared<'a, W: Truth, K: Keeper<W>, T: Tree<W>, R: Reader<W>
         return (desk, met);
     }
     let desk = read_left(ground, desk, hand, &mut met);
-    let desk = look_left(ground.rt, ground.alloc, desk, hand, roots, &mut met);
+    let desk = look_left(ground.rt, ground.alloc, desk, hand, roots, select, &mut met);
     (desk, met)
 }
 
@@ -49,7 +61,7 @@ fn read_left<'a, W: Truth, K: Keeper<W>, T: Tree<W>, R: Reader<W>, G, Rt: Wait>(
     hand: &mut T,
     met: &mut Vec<Miss>,
 ) -> Desk<'a, W, K>
-    ensures { (roots : List (List ℕ)) → LeadsInSettling T.told W.version roots desk.entry.seat
+    ensures { (scope : Scope) → LeadsInSettling T.told W.version scope desk.entry.seat
         (T.shows hand.old) result.seat (T.shows hand.new) met.old.items met.new.items }
 {
     let Desk { lock, mut seat } = desk;
@@ -74,7 +86,7 @@ fn read_next<'a, W: Truth, K: Keeper<W>, T: Tree<W>, R: Reader<W>, G, Rt: Wait>(
     hand: &mut T,
     met: &mut Vec<Miss>,
 ) -> (Desk<'a, W, K>, bool)
-    ensures { (roots : List (List ℕ)) → LeadsInSettling T.told W.version roots desk.entry.seat
+    ensures { (scope : Scope) → LeadsInSettling T.told W.version scope desk.entry.seat
         (T.shows hand.old) result.0.seat (T.shows hand.new) met.old.items met.new.items }
 {
     let (desk, name) = desk.take(ground.rt);
@@ -100,20 +112,23 @@ fn read_next<'a, W: Truth, K: Keeper<W>, T: Tree<W>, R: Reader<W>, G, Rt: Wait>(
 
 /// Looks for the files of the rows that are no longer listed, in path order, until none is left or
 /// the work ends.
-fn look_left<'a, W: Truth, K: Keeper<W>, T: Tree<W>, Rt: Wait>(
+fn look_left<'a, W: Truth, K: Keeper<W>, T: Tree<W>, P: Selection, Rt: Wait>(
     rt: &Rt,
     alloc: Global,
     desk: Desk<'a, W, K>,
     hand: &mut T,
     roots: &[CanonPath],
+    select: &mut P,
     met: &mut Vec<Miss>,
 ) -> Desk<'a, W, K>
-    ensures { LeadsInSettling T.told W.version roots.now desk.entry.seat (T.shows hand.old) result.seat
-        (T.shows hand.new) met.old.items met.new.items }
+    ensures leads { LeadsInSettling T.told W.version (scope_of roots.now (P.takes select.old))
+        desk.entry.seat (T.shows hand.old) result.seat (T.shows hand.new) met.old.items
+        met.new.items }
+    ensures same { P.takes select.new ≡ P.takes select.old }
 {
     let Desk { lock, mut seat } = desk;
     for _ in rt.forever() {
-        let (desk, goes_on) = look_next(rt, alloc, Desk { lock, seat }, hand, roots, met);
+        let (desk, goes_on) = look_next(rt, alloc, Desk { lock, seat }, hand, roots, select, met);
         if !goes_on {
             return desk;
         }
@@ -128,23 +143,26 @@ fn look_left<'a, W: Truth, K: Keeper<W>, T: Tree<W>, Rt: Wait>(
 
 /// Looks for the file of the next row that is no longer listed, if one is left. Says whether the
 /// work goes on.
-fn look_next<'a, W: Truth, K: Keeper<W>, T: Tree<W>, Rt: Wait>(
+fn look_next<'a, W: Truth, K: Keeper<W>, T: Tree<W>, P: Selection, Rt: Wait>(
     rt: &Rt,
     alloc: Global,
     desk: Desk<'a, W, K>,
     hand: &mut T,
     roots: &[CanonPath],
+    select: &mut P,
     met: &mut Vec<Miss>,
 ) -> (Desk<'a, W, K>, bool)
-    ensures { LeadsInSettling T.told W.version roots.now desk.entry.seat (T.shows hand.old) result.0.seat
-        (T.shows hand.new) met.old.items met.new.items }
+    ensures leads { LeadsInSettling T.told W.version (scope_of roots.now (P.takes select.old))
+        desk.entry.seat (T.shows hand.old) result.0.seat (T.shows hand.new) met.old.items
+        met.new.items }
+    ensures same { P.takes select.new ≡ P.takes select.old }
 {
     let (desk, task) = desk.groom_take(rt);
     let Some(task) = task else {
         return (desk, false);
     };
     // Another token's pass may stand there by now: its rows are not this hand's to look for.
-    if is_elsewhere(&task, roots) {
+    if is_elsewhere(alloc, &task, roots, select) {
         return (desk, false);
     }
     match look(alloc, hand, &task) {
@@ -158,11 +176,25 @@ fn look_next<'a, W: Truth, K: Keeper<W>, T: Tree<W>, Rt: Wait>(
     }
 }
 
-/// Whether the file would be looked for under none of these roots.
-fn is_elsewhere(task: &GroomTask, roots: &[CanonPath]) -> bool
-    ensures { OnFalse result (task.now.under ≡ true → is_under roots.now task.now.name.path ≡ true) }
+/// Whether the file would be looked for outside of the scope of this pass. Where there is no memory
+/// to ask, it counts as such.
+fn is_elsewhere<P: Selection>(
+    alloc: Global,
+    task: &GroomTask,
+    roots: &[CanonPath],
+    select: &mut P,
+) -> bool
+    ensures own { OnFalse result (task.now.under ≡ true
+        → is_in_scope (scope_of roots.now (P.takes select.old)) task.now.name.path ≡ true) }
+    ensures same { P.takes select.new ≡ P.takes select.old }
 {
-    task.under && !is_under_any(roots, &task.name.path)
+    if !task.under {
+        return false;
+    }
+    match is_in_scope(alloc, roots, select, &task.name.path) {
+        Ok(inside) => !inside,
+        Err(_) => true,
+    }
 }
 
 /// Judges a row by what the hand saw at its path, and notes it where its file stands there. Says

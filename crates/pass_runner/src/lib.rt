@@ -14,6 +14,7 @@ mod owned;
 mod parts;
 mod pass_end;
 mod read_new;
+mod scope;
 mod settling;
 mod shared;
 mod shared_pass;

@@ -1,9 +1,10 @@
 //! Looking for the files of rows that are no longer listed.
 
-ghost use Rattle.std.specs.Prelude.{◌≡◌, ℕ, List, [], false, true, IfSome};
+ghost use Rattle.std.specs.Prelude.{◌≡◌, ℕ, Bool, List, [], false, true, IfSome};
 ghost use Rattle.row_types.specs.Faults.{HasCause};
 ghost use Rattle.index_state.specs.Away.{GroomsNext};
-ghost use Rattle.index_state.specs.Judge.{is_name_kept, is_under};
+ghost use Rattle.index_state.specs.Judge.{is_name_kept};
+ghost use Rattle.index_state.specs.Marks.{is_marked};
 ghost use Rattle.index_state.specs.State.{pass_or_none};
 ghost use Rattle.scan_queue.specs.Names.{is_in};
 ghost use Rattle.pass_runner.specs.Ends.{SettlesBy};
@@ -21,7 +22,7 @@ use std::alloc::Global;
 use tree_trait::Tree;
 
 /// Looks for the files of the rows that are no longer listed, in path order, and drops those rows
-/// whose files are gone. No look is made at a path under no root.
+/// whose files are gone. No look is made at a path that isn't marked.
 pub(crate) fn look_for_all<W: Truth, K: Keeper<W>, T: Tree<W>>(
     alloc: Global,
     state: &mut State<W, K>,
@@ -64,7 +65,7 @@ fn look_for<W: Truth, K: Keeper<W>, T: Tree<W>>(
     requires sound { state.old.broken ≡ false }
     requires unlisted { is_name_kept state.old.pass task.now.name ≡ false }
     requires out { is_in (pass_or_none state.old.pass).out task.now.name ≡ true }
-    requires under { task.now.under ≡ is_under state.old.roots task.now.name.path }
+    requires under { task.now.under ≡ is_marked state.old.pass task.now.name.path }
     ensures { TurnsOver T.told W.version K.shows [] task.now.name (T.shows hand.old)
         (T.shows hand.new) state.old state.new result }
 {
@@ -80,11 +81,11 @@ fn look_for<W: Truth, K: Keeper<W>, T: Tree<W>>(
     }
 }
 
-/// Looks for the file of a row, if its path is under a root.
+/// Looks for the file of a row, if its path is marked.
 #[tactic(auto, using(crate::proofs::Turning::looks_as))]
 fn look_under<W: Truth, T: Tree<W>>(alloc: Global, hand: &mut T, task: &GroomTask) -> Looked
-    ensures { (roots : List (List ℕ)) → task.now.under ≡ is_under roots task.now.name.path
-        → LooksForFile T.told W.version roots task.now.name (T.shows hand.old) (T.shows hand.new) result }
+    ensures { (looks : List ℕ → Bool) → task.now.under ≡ looks task.now.name.path
+        → LooksForFile T.told W.version looks task.now.name (T.shows hand.old) (T.shows hand.new) result }
 {
     look(alloc, hand, task)
 }

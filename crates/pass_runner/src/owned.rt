@@ -1,6 +1,7 @@
 //! A pass over an index that is owned.
 
 ghost use Rattle.std.specs.Prelude.{◌≡◌, ◌<◌, ◌≤◌, List, drop, false, length, vec_len, IfOk, IsTrue};
+ghost use Rattle.path_scope.specs.Scope.{scope_of};
 ghost use Rattle.row_types.specs.Faults.{HasCause};
 ghost use Rattle.row_types.specs.Name.{NameFacts};
 ghost use Rattle.row_types.specs.Rules.{rules};
@@ -16,6 +17,7 @@ use crate::summary::summary_of;
 use index_desk::{Ground, WorkEnd};
 use index_keeper::Keeper;
 use index_state::{Begun, Plan, State, show_index};
+use path_scope::Selection;
 use row_types::{CanonPath, Truth};
 use scan_queue::{Listing, Miss};
 use std::alloc::{AllocError, Global};
@@ -24,14 +26,16 @@ use std::thread::Threads;
 use tree_trait::{Gate, Reader, Tree};
 use tree_walk::{Walk, walk};
 
-/// Makes one pass over the roots: walks them, begins a pass over what was listed, has the other
-/// hands help with it in threads of their own, and settles what is left. The hands come back in
-/// their order. The first one walks and settles, the second one looks for the files of rows that
-/// are no longer listed, and those from the third on read listed files that have no row.
+/// Makes one pass over the selected files under the roots: walks them, begins a pass over what was
+/// listed, has the other hands help with it in threads of their own, and settles what is left. The
+/// hands come back in their order. The first one walks and settles, the second one looks for the
+/// files of rows that are no longer listed, and those from the third on read listed files that have
+/// no row.
 pub fn scan_state<
     W: Truth + Send + Sync,
     K: Keeper<W>,
     T: Tree<W>,
+    P: Selection,
     R: Reader<W> + Sync,
     G: Gate,
     Rt: Threads + Wait + Sync,
@@ -41,6 +45,7 @@ pub fn scan_state<
     state: State<W, K>,
     hands: Vec<T>,
     roots: &[CanonPath],
+    select: &mut P,
     reader: &R,
     gate: &G,
 ) -> (State<W, K>, Vec<T>, PassEnd)
@@ -48,7 +53,7 @@ pub fn scan_state<
     requires sound { state.broken ≡ false }
     ensures pass { (listing : List NameFacts) × HandsGo
         (λ hand later. EndsPass (rules W.version W.true_row W.told) T.told K.told K.shows
-        (vec_len hands) roots.now listing (T.shows hand) (T.shows later) state result.0 result.2)
+        (vec_len hands) (scope_of roots.now (P.takes select.old)) listing (T.shows hand) (T.shows later) state result.0 result.2)
         (λ hand later. Helps T.told W.version listing (row_names state.rows) (T.shows hand)
         (T.shows later)) hands.items result.1.items }
     ensures hands { HandsGo
@@ -61,9 +66,10 @@ pub fn scan_state<
     ensures keeper { result.2 ≡ PassEnd.KeeperFault → 0 < (K.shows result.0.keeper).faults }
     ensures alone { vec_len hands ≤ 1 → HasCause (K.shows state.keeper).faults
         (K.shows result.0.keeper).faults (result.2 ≡ PassEnd.KeeperFault) }
+    ensures same { P.takes select.new ≡ P.takes select.old }
 {
     let mut hands = hands;
-    match walk(alloc, &mut hands[0], roots) {
+    match walk(alloc, &mut hands[0], roots, select) {
         Ok(
             Walk {
                 listing,
@@ -76,7 +82,7 @@ pub fn scan_state<
                 reader,
                 gate,
             };
-            scan_listed(ground, state, hands, listing, roots)
+            scan_listed(ground, state, hands, listing, roots, select)
         }
         Err(fault) => (state, hands, PassEnd::Walk(fault)),
     }
@@ -87,6 +93,7 @@ fn scan_listed<
     W: Truth + Send + Sync,
     K: Keeper<W>,
     T: Tree<W>,
+    P: Selection,
     R: Reader<W> + Sync,
     G: Gate,
     Rt: Threads + Wait + Sync,
@@ -96,12 +103,13 @@ fn scan_listed<
     hands: Vec<T>,
     listing: Listing,
     roots: &[CanonPath],
+    select: &mut P,
 ) -> (State<W, K>, Vec<T>, PassEnd)
     requires hand { 0 < vec_len hands }
     requires sound { state.broken ≡ false }
     ensures over { HandsGo
         (λ hand later. EndsOver (rules W.version W.true_row W.told) T.told K.told K.shows T.shows
-        (vec_len hands) listing roots.now hand later state result.0 result.2)
+        (vec_len hands) listing (scope_of roots.now (P.takes select.old)) hand later state result.0 result.2)
         (λ hand later. Helps T.told W.version listing (row_names state.rows) (T.shows hand)
         (T.shows later)) hands.items result.1.items }
     ensures hands { HandsGo
@@ -113,38 +121,49 @@ fn scan_listed<
     ensures keeper { result.2 ≡ PassEnd.KeeperFault → 0 < (K.shows result.0.keeper).faults }
     ensures alone { vec_len hands ≤ 1 → HasCause (K.shows state.keeper).faults
         (K.shows result.0.keeper).faults (result.2 ≡ PassEnd.KeeperFault) }
+    ensures same { P.takes select.new ≡ P.takes select.old }
 {
     if hands.len() > 1 {
-        return scan_beside(ground, state, hands, listing, roots);
+        return scan_beside(ground, state, hands, listing, roots, select);
     }
     let mut state = state;
     let mut hands = hands;
     let Ground { alloc, reader, .. } = ground;
-    let end = run_over(alloc, &mut state, &mut hands[0], listing, roots, reader);
+    let end = run_over(
+        alloc,
+        &mut state,
+        &mut hands[0],
+        listing,
+        roots,
+        select,
+        reader,
+    );
     (state, hands, end)
 }
 
 /// Begins a pass over a listing, and settles it.
-fn run_over<W: Truth, K: Keeper<W>, T: Tree<W>, R: Reader<W>>(
+fn run_over<W: Truth, K: Keeper<W>, T: Tree<W>, P: Selection, R: Reader<W>>(
     alloc: Global,
     state: &mut State<W, K>,
     hand: &mut T,
     listing: Listing,
     roots: &[CanonPath],
+    select: &mut P,
     reader: &R,
 ) -> PassEnd
     requires sound { state.old.broken ≡ false }
     ensures over { EndsOver (rules W.version W.true_row W.told) T.told K.told K.shows T.shows
-        1 listing roots.now hand.old hand.new state.old state.new result }
+        1 listing (scope_of roots.now (P.takes select.old)) hand.old hand.new state.old state.new result }
     ensures hand { HandsOn T.told W.version (T.shows hand.old) (T.shows hand.new)
         ⊥ (IsTrue (is_hand_fault result)) }
     ensures keeper { HasCause (K.shows state.old.keeper).faults (K.shows state.new.keeper).faults
         (result ≡ PassEnd.KeeperFault) }
+    ensures same { P.takes select.new ≡ P.takes select.old }
 {
     let Ok(own) = copies(alloc, roots) else {
         return PassEnd::OutOfMemory;
     };
-    match state.begin(alloc, listing, own) {
+    match state.begin(alloc, listing, own, select) {
         Begun::Begun(plan) => settle_begun(alloc, state, hand, &plan, reader),
         Begun::OutOfMemory => PassEnd::OutOfMemory,
         Begun::Broken => unreachable!(),

@@ -1,6 +1,7 @@
 //! A pass over an index that is shared.
 
 ghost use Rattle.std.specs.Prelude.{◌≡◌, ◌<◌, [], drop, length, vec_len, IsTrue, None};
+ghost use Rattle.path_scope.specs.Scope.{scope_of};
 ghost use Rattle.row_types.specs.Rules.{rules};
 ghost use Rattle.index_lock.specs.Tokens.{IsLater};
 ghost use Rattle.tree_trait.specs.Shown.{HandsOn};
@@ -13,6 +14,7 @@ use index_desk::{Desk, Ground};
 use index_keeper::Keeper;
 use index_lock::{Seat, TurnLock};
 use index_state::State;
+use path_scope::Selection;
 use row_types::{CanonPath, Truth};
 use std::alloc::Global;
 use std::sync::Wait;
@@ -20,7 +22,7 @@ use std::thread::Threads;
 use tree_trait::{Gate, Reader, Tree};
 use tree_walk::{Walk, walk};
 
-/// Makes one pass over the roots with an index that others share: the first hand walks, a pass over
+/// Makes one pass over the selected files under the roots with an index that others share: the first hand walks, a pass over
 /// what was listed begins, and the other hands help with it in threads of their own, as in
 /// `scan_state`. Then the first hand tries again what they left, and decides in one hold of the
 /// lock how the pass ended: whole where nothing is left to be done for its listing, else by a full
@@ -33,6 +35,7 @@ pub fn run_pass<
     W: Truth + Send + Sync,
     K: Keeper<W>,
     T: Tree<W>,
+    P: Selection,
     R: Reader<W> + Sync,
     G: Gate,
     Rt: Threads + Wait + Sync,
@@ -43,6 +46,7 @@ pub fn run_pass<
     seat: Seat<State<W, K>>,
     hands: Vec<T>,
     roots: &[CanonPath],
+    select: &mut P,
     reader: &R,
     gate: &G,
 ) -> (Seat<State<W, K>>, Vec<T>, PassEnd)
@@ -51,8 +55,8 @@ pub fn run_pass<
     requires spared { seat.origin.sparing ≡ None }
     ensures later { IsLater seat result.0 }
     ensures pass { HandsGo
-        (λ hand later. EndsShared (rules W.version W.true_row W.told) T.told roots.now seat.seen
-        result.0.seen (T.shows hand) (T.shows later) result.2)
+        (λ hand later. EndsShared (rules W.version W.true_row W.told) T.told
+        (scope_of roots.now (P.takes select.old)) seat.seen result.0.seen (T.shows hand) (T.shows later) result.2)
         (λ hand later. Helps T.told W.version [] [] (T.shows hand) (T.shows later))
         hands.items result.1.items }
     ensures hands { HandsGo
@@ -62,13 +66,14 @@ pub fn run_pass<
         hands.items result.1.items }
     ensures idle { IsTrue (is_unbegun result.2) → drop 1 result.1.items ≡ drop 1 hands.items }
     ensures complete { HandsGo
-        (λ hand later. IsUnhinderedPass T.told roots.now result.0.seen (T.shows hand)
-        (T.shows later) → IsDoneShared result.0.seen result.2)
+        (λ hand later. IsUnhinderedPass T.told (scope_of roots.now (P.takes select.old))
+        result.0.seen (T.shows hand) (T.shows later) → IsDoneShared result.0.seen result.2)
         (λ hand later. HandsOn T.told W.version (T.shows hand) (T.shows later) ⊥ ⊥)
         hands.items result.1.items }
+    ensures same { P.takes select.new ≡ P.takes select.old }
 {
     let mut hands = hands;
-    match walk(alloc, &mut hands[0], roots) {
+    match walk(alloc, &mut hands[0], roots, select) {
         Ok(
             Walk {
                 listing,
@@ -87,6 +92,7 @@ pub fn run_pass<
                 hands,
                 listing,
                 roots,
+                select,
             );
             let Desk { lock: _, seat } = desk;
             (seat, hands, end)

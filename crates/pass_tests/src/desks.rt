@@ -7,6 +7,7 @@ use elf_reading::ElfReader;
 use index_desk::Desk;
 use index_keeper::MemKeeper;
 use index_state::{Begun, Judged, Plan, Published};
+use path_scope::AllPaths;
 use row_types::TrueRow;
 use sample_index::{Unspared, empty_shared};
 use sample_rows::{name_text, paths};
@@ -47,7 +48,7 @@ fn begin_over<'a, R: Abort + Wait>(rt: &R, alloc: Global, desk: TwoDesk<'a>) -> 
     let Ok(listing) = Listing::new(listed(rt, alloc, Some(Version::First))) else {
         panic!(rt; "a name is by path")
     };
-    desk.begin(rt, alloc, listing, roots)
+    desk.begin(rt, alloc, listing, roots, &mut AllPaths)
 }
 
 /// Misses the name that is out, and has it tried again.

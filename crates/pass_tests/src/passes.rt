@@ -5,6 +5,7 @@ mod cases;
 mod ends;
 mod missed;
 mod passes;
+mod selected;
 mod shared;
 mod tokens;
 mod whole;

@@ -1,6 +1,7 @@
 -- Indexes for tests (this project's example).
-use Rattle.std.specs.Prelude.{◌≡◌, ℕ, false, List, None}
+use Rattle.std.specs.Prelude.{◌≡◌, false, List, None}
 use Rattle.row_types.specs.Name.{NameFacts}
+use Rattle.path_scope.specs.Scope.{Scope}
 use Rattle.index_state.specs.State.{StateFacts, pass_or_none}
 use Rattle.index_state.specs.Step.{BeginsPass}
 use Rattle.index_state.specs.declared.answer.Plan.{Plan}
@@ -12,8 +13,8 @@ pub record IsNew {K : Type 0} (index : StateFacts K) : Type 0 where
 
 -- a pass over the names began
 pub record StartsPass {K : Type 0} (names : List NameFacts) (old new : StateFacts K) (plan : Plan) : Type 0 where
-  pub roots : List (List ℕ)
-  pub begins : BeginsPass names roots plan old new
+  pub scope : Scope
+  pub begins : BeginsPass names scope plan old new
 
 -- the index is in a pass over the names, and no change of the store failed
 pub record IsInPass {K : Type 0} (names : List NameFacts) (index : StateFacts K) : Type 0 where

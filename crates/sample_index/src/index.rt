@@ -7,6 +7,7 @@ ghost use Rattle.sample_index.specs.Indexes.{IsInPass, IsNew, StartsPass};
 
 use index_keeper::{MemKeeper, MemStore, Store, StoreAnswer};
 use index_state::{Begun, OpenFault, Plan, State, open_state};
+use path_scope::AllPaths;
 use row_types::{Name, Truth};
 use sample_rows::paths;
 use scan_queue::Listing;
@@ -64,7 +65,7 @@ pub fn begin<W: Truth + Send>(
 {
     let roots = paths(alloc, &[root]).ok()?;
     let listing = Listing::new(listed).ok()?;
-    match index.begin(alloc, listing, roots) {
+    match index.begin(alloc, listing, roots, &mut AllPaths) {
         Begun::Begun(plan) => Some(plan),
         Begun::Broken | Begun::OutOfMemory => None,
     }

@@ -5,6 +5,7 @@ ghost use Rattle.std.specs.Prelude.{◌≡◌, None, IfSome};
 use crate::index::{Index, empty_index};
 use index_lock::{Seat, Split, TurnLock};
 use index_state::Begun;
+use path_scope::AllPaths;
 use row_types::Truth;
 use scan_queue::Listing;
 use std::alloc::Global;
@@ -50,7 +51,7 @@ pub fn put_behind<W: Truth + Send>(alloc: Global, index: Index<W>) -> Option<Sha
 pub fn empty_shared<W: Truth + Send>(alloc: Global, stop_at: Option<u64>) -> Option<Unspared<W>> {
     let mut index: Index<W> = empty_index(alloc, stop_at)?;
     let none = Listing::new(Vec::new(alloc)).ok()?;
-    let Begun::Begun(_) = index.begin(alloc, none, Vec::new(alloc)) else {
+    let Begun::Begun(_) = index.begin(alloc, none, Vec::new(alloc), &mut AllPaths) else {
         return None;
     };
     match TurnLock::make(alloc, index) {

@@ -7,7 +7,7 @@ ghost use Rattle.row_types.specs.Sources.{Names};
 ghost use Rattle.source_paths.specs.Adds.{AddsPaths, Has};
 
 use crate::path_set::PathSet;
-use path_canon::{PathFault, canonical};
+use path_scope::{PathFault, canonical};
 use row_types::CanonPath;
 use std::alloc::{AllocError, Global};
 

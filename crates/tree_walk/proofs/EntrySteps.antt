@@ -1,4 +1,5 @@
 -- What is kept agrees with the answers after an entry that asks nothing: a folder, or a path that is too long.
+use Rattle.path_scope.specs.Scope.{Scope}
 use Rattle.std.proofs.Common.{◌≡◌, ℕ, ◌+◌, ◌<◌, ◌||◌, inl, inr, Bool, true, false, List, [], ◌∷◌, ◌++◌}
 use Rattle.std.proofs.Common.{length, refl, sym, ◌∙◌, ap, subst, arith}
 use Rattle.std.specs.Prelude.{if◌then◌else◌, count_by}
@@ -20,9 +21,9 @@ use Rattle.tree_walk.proofs.GrowLemmas.{Grows, seen_more}
 use Rattle.tree_walk.proofs.SetLemmas.{same, same-Decides, same_bytes, has-with_path, sorted-with_path}
 
 -- the same search with other entries to see to
-pub with_pending : {answers : List Heard} {roots : List (List ℕ)} {search : SearchFacts} {folder to : List ℕ}
-    {rest left : List EntryFacts} → IsSearch answers roots search folder rest
-    → AreSeenTo answers search.folders search.long to left → IsSearch answers roots search to left
+pub with_pending : {answers : List Heard} {scope : Scope} {search : SearchFacts} {folder to : List ℕ}
+    {rest left : List EntryFacts} → IsSearch answers scope search folder rest
+    → AreSeenTo answers scope.takes search.folders search.long to left → IsSearch answers scope search to left
 with_pending s closed = record {
   looks = s.looks;
   asked = s.asked;
@@ -48,13 +49,13 @@ grown : {answers : List Heard} {known next long longer : List (List ℕ)}
 grown folders long = record { folders = folders; too_long = long; looks = λ p h. h }
 
 -- a folder that wasn't known is to be read
-folder_new : {answers : List Heard} {roots known todo : List (List ℕ)} {path : List ℕ}
-    → AreFolders answers roots known todo → IsFolder answers roots path → IsCanonPath path
+folder_new : {answers : List Heard} {scope : Scope} {known todo : List (List ℕ)} {path : List ℕ}
+    → AreFolders answers scope known todo → IsFolder answers scope path → IsCanonPath path
     → has_path known path ≡ false
-    → AreFolders answers roots (with_path known path) (todo ++ path ∷ [])
-folder_new {answers} {roots} {known} {todo} {path} f is_folder kept fresh = record {
+    → AreFolders answers scope (with_path known path) (todo ++ path ∷ [])
+folder_new {answers} {scope} {known} {todo} {path} f is_folder kept fresh = record {
   due = λ p h. elim (or_cases (same p path) (has_path known p) (sym (has-with_path known path p) ∙ h)) [
-    | inl one ↦ subst (λ (z : List ℕ). IsFolder answers roots z × IsCanonPath z)
+    | inl one ↦ subst (λ (z : List ℕ). IsFolder answers scope z × IsCanonPath z)
         (sym ((same-Decides p path).0 one)) (is_folder, kept)
     | inr old ↦ f.due p old
   ];
@@ -83,13 +84,13 @@ with_new_folder search path known =
       todo = search.todo ++ path ∷ [];
     }
 
-pub folder_step : {answers : List Heard} {roots : List (List ℕ)} {search : SearchFacts} {folder : List ℕ}
-    {rest : List EntryFacts} {path : List ℕ} → IsSearch answers roots search folder rest
-    → IsFolder answers roots path → IsCanonPath path
-    → IsSearch answers roots (with_folder search path) folder rest
-folder_step {answers} {roots} {search} {folder} {rest} {path} s is_folder kept =
+pub folder_step : {answers : List Heard} {scope : Scope} {search : SearchFacts} {folder : List ℕ}
+    {rest : List EntryFacts} {path : List ℕ} → IsSearch answers scope search folder rest
+    → IsFolder answers scope path → IsCanonPath path
+    → IsSearch answers scope (with_folder search path) folder rest
+folder_step {answers} {scope} {search} {folder} {rest} {path} s is_folder kept =
     elim (has_path search.folders path) as (λ v. has_path search.folders path ≡ v
-    → IsSearch answers roots (with_new_folder search path v) folder rest) [
+    → IsSearch answers scope (with_new_folder search path v) folder rest) [
       | true ↦ λ e. s
       | false ↦ λ e. record {
         looks = s.looks;
@@ -121,18 +122,18 @@ folder_files search path =
     [ true ↦ refl | false ↦ refl ]
 
 -- a path that is too long
-pub long_step : {answers : List Heard} {roots : List (List ℕ)} {search : SearchFacts} {folder : List ℕ}
-    {rest : List EntryFacts} {path : List ℕ} → IsSearch answers roots search folder rest
-    → IsReached answers roots path → PATH_LIMIT < length path
-    → IsSearch answers roots (with_long search path) folder rest
-long_step {answers} {roots} {search} {path} s reached long = record {
+pub long_step : {answers : List Heard} {scope : Scope} {search : SearchFacts} {folder : List ℕ}
+    {rest : List EntryFacts} {path : List ℕ} → IsSearch answers scope search folder rest
+    → IsReached answers scope path → PATH_LIMIT < length path
+    → IsSearch answers scope (with_long search path) folder rest
+long_step {answers} {scope} {search} {path} s reached long = record {
   looks = s.looks;
   asked = s.asked;
   known = s.known;
   too_long = record {
     each = λ p h. elim (or_cases (same p path) (has_path search.long p)
         (sym (has-with_path search.long path p) ∙ h)) [
-          | inl one ↦ subst (λ (z : List ℕ). IsReached answers roots z × (PATH_LIMIT < length z))
+          | inl one ↦ subst (λ (z : List ℕ). IsReached answers scope z × (PATH_LIMIT < length z))
               (sym ((same-Decides p path).0 one)) (reached, long)
           | inr old ↦ s.too_long.each p old
         ];
@@ -146,20 +147,20 @@ pub long_known : (search : SearchFacts) (path : List ℕ) → has_path (with_lon
 long_known search path = has_new search.long path
 
 -- one of the entries was seen to
-pub entry_step : {answers : List Heard} {roots : List (List ℕ)} {search : SearchFacts} {folder : List ℕ}
-    {first : EntryFacts} {rest : List EntryFacts} → IsSearch answers roots search folder (first ∷ rest)
-    → IsSeenTo answers search.folders search.long (child folder first.name) first.kind
-    → IsSearch answers roots search folder rest
-entry_step {answers} {search} {folder} {first} {rest} s settled =
+pub entry_step : {answers : List Heard} {scope : Scope} {search : SearchFacts} {folder : List ℕ}
+    {first : EntryFacts} {rest : List EntryFacts} → IsSearch answers scope search folder (first ∷ rest)
+    → IsSeenTo answers scope.takes search.folders search.long (child folder first.name) first.kind
+    → IsSearch answers scope search folder rest
+entry_step {answers} {scope} {search} {folder} {first} {rest} s settled =
     with_pending s (record {
       each = λ at entry h. elim (s.closed.each at entry h) [
         | inl done ↦ inl done
         | inr pending ↦ elim (or_cases (same_entry entry first) (has_entry rest entry) pending.among) [
           | inl one ↦
               let is_first : first ≡ entry = sym (entries_same entry first one) in
-              inl (subst (λ (z : List ℕ). IsSeenTo answers search.folders search.long
+              inl (subst (λ (z : List ℕ). IsSeenTo answers scope.takes search.folders search.long
               (child z entry.name) entry.kind) (sym pending.here)
-              (subst (λ (e : EntryFacts). IsSeenTo answers search.folders search.long
+              (subst (λ (e : EntryFacts). IsSeenTo answers scope.takes search.folders search.long
               (child folder e.name) e.kind) is_first settled))
           | inr later ↦ inr (record { here = pending.here; among = later })
         ]

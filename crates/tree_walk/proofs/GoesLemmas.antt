@@ -1,4 +1,5 @@
 -- Answers that are heard one after the other.
+use Rattle.path_scope.specs.Scope.{Scope}
 use Rattle.std.proofs.Common.{◌≡◌, ℕ, ◌+◌, ◌<◌, inl, Bool, true, List, [], ◌∷◌, ◌++◌, length, take, drop, get_or}
 use Rattle.std.proofs.Common.{Option, Some, None, Result, Ok, Err, MatchResult, All, refl, sym, ◌∙◌, ap}
 use Rattle.std.proofs.Common.{subst, append_assoc}
@@ -101,26 +102,26 @@ goes_then_up {told} {before} {after} {answers} {MidGood} {NewBad} {fault} up h s
     goes_up up both (λ more bad. bad)
 
 -- memory was refused, by these answers
-pub memory_ends : {V : Type 0} {answers : List Heard} {roots : List (List ℕ)} (Good : V → Type 0)
-    (result : Result V WalkFault) → IsErrAnd result (λ y. y ≡ OutOfMemory) → IsCause answers roots OutOfMemory
-    → MatchResult result Good (IsCause answers roots)
+pub memory_ends : {V : Type 0} {answers : List Heard} {scope : Scope} (Good : V → Type 0)
+    (result : Result V WalkFault) → IsErrAnd result (λ y. y ≡ OutOfMemory) → IsCause answers scope OutOfMemory
+    → MatchResult result Good (IsCause answers scope)
 memory_ends Good (Ok x) h cause = absurd h
-memory_ends {answers} {roots} Good (Err y) h cause = subst (IsCause answers roots) (sym h) cause
+memory_ends {answers} {scope} Good (Err y) h cause = subst (IsCause answers scope) (sym h) cause
 
 -- memory was refused before anything was asked
-pub goes_memory : {V : Type 0} {told : Bool} {tree : ShownTree} {answers : List Heard} {roots : List (List ℕ)}
+pub goes_memory : {V : Type 0} {told : Bool} {tree : ShownTree} {answers : List Heard} {scope : Scope}
     {Good : List Heard → V → Type 0} (result : Result V WalkFault) → IsErrAnd result (λ y. y ≡ OutOfMemory)
-    → StopsBetween answers roots → GoesByAnswers told tree tree answers Good (λ heard. IsCause heard roots) result
+    → StopsBetween answers scope → GoesByAnswers told tree tree answers Good (λ heard. IsCause heard scope) result
 goes_memory {answers} {Good} result h between = goes_none (memory_ends (Good answers) result h (inl between))
 
 -- a fault of one call, by which the walk ends
-pub call_fault : {roots : List (List ℕ)} (answers more : List Heard) (failed : Heard) (fault : WalkFault)
-    → StopsAtLast (answers ++ failed ∷ []) roots (λ last. call_failed last ≡ true) → StopsBetween answers roots
-    → IsCallFault failed more fault → IsCause (answers ++ more) roots fault
-call_fault {roots} answers more failed Failed last between h =
-    subst (λ (m : List Heard). StopsAtLast (answers ++ m) roots (λ last. call_failed last ≡ true)) (sym h) last
-call_fault {roots} answers more failed OutOfMemory last between h =
-    inl (subst (λ (a : List Heard). StopsBetween a roots)
+pub call_fault : {scope : Scope} (answers more : List Heard) (failed : Heard) (fault : WalkFault)
+    → StopsAtLast (answers ++ failed ∷ []) scope (λ last. call_failed last ≡ true) → StopsBetween answers scope
+    → IsCallFault failed more fault → IsCause (answers ++ more) scope fault
+call_fault {scope} answers more failed Failed last between h =
+    subst (λ (m : List Heard). StopsAtLast (answers ++ m) scope (λ last. call_failed last ≡ true)) (sym h) last
+call_fault {scope} answers more failed OutOfMemory last between h =
+    inl (subst (λ (a : List Heard). StopsBetween a scope)
     (sym (ap (λ (m : List Heard). answers ++ m) h ∙ append-nil answers)) between)
 call_fault answers more failed _ last between h = absurd h
 

@@ -1,6 +1,7 @@
 -- What is kept agrees with more answers too.
+use Rattle.path_scope.specs.Scope.{Scope}
 use Rattle.std.proofs.Common.{◌≡◌, ℕ, ◌+◌, ◌-◌, ◌^◌, ◌≤◌, inl, inr, min, true, false, List, [], ◌∷◌, ◌++◌}
-use Rattle.std.proofs.Common.{length, IsSome, MatchBool, Contains, refl, ◌∙◌, ap, subst, arith}
+use Rattle.std.proofs.Common.{Bool, length, IsSome, MatchBool, Contains, refl, ◌∙◌, ap, subst, arith}
 use Rattle.std.specs.Prelude.{nat_lt, count_by}
 use Rattle.std.specs.Str.{bytes_eq}
 use Rattle.std.proofs.lemmas.Bool.{and_from}
@@ -28,40 +29,40 @@ pub record Grows (answers later : List Heard) (known next long longer : List (Li
   pub too_long : (path : List ℕ) → has_path long path ≡ true → has_path longer path ≡ true
   pub looks : (path : List ℕ) → IsSome (first_look answers path) → IsSome (first_look later path)
 
-met_more : {answers later : List Heard} {known next long longer : List (List ℕ)} (path : List ℕ)
-    (k : EntryKind) → Grows answers later known next long longer → IsEntryMet answers known path k
-    → IsEntryMet later next path k
-met_more path kind.Folder g h = g.folders path h
-met_more path kind.File g h = g.looks path h
-met_more path kind.Other g h = h
+met_more : {answers later : List Heard} (takes : List ℕ → Bool) {known next long longer : List (List ℕ)} (path : List ℕ)
+    (k : EntryKind) → Grows answers later known next long longer → IsEntryMet answers takes known path k
+    → IsEntryMet later takes next path k
+met_more takes path kind.Folder g h = g.folders path h
+met_more takes path kind.File g h = λ taken. g.looks path (h taken)
+met_more takes path kind.Other g h = h
 
-pub settled_more : {answers later : List Heard} {known next long longer : List (List ℕ)} (path : List ℕ)
+pub settled_more : {answers later : List Heard} (takes : List ℕ → Bool) {known next long longer : List (List ℕ)} (path : List ℕ)
     (k : EntryKind) → Grows answers later known next long longer
-    → IsSeenTo answers known long path k → IsSeenTo later next longer path k
-settled_more {answers} {later} {known} {next} {long} {longer} path k g h =
+    → IsSeenTo answers takes known long path k → IsSeenTo later takes next longer path k
+settled_more {answers} {later} takes {known} {next} {long} {longer} path k g h =
     elim (nat_lt PATH_LIMIT (length path)) as (λ v. MatchBool v (has_path long path ≡ true)
-    (IsEntryMet answers known path k) → MatchBool v (has_path longer path ≡ true) (IsEntryMet later next path k))
-    [ true ↦ λ s. g.too_long path s | false ↦ λ s. met_more path k g s ] h
+    (IsEntryMet answers takes known path k) → MatchBool v (has_path longer path ≡ true) (IsEntryMet later takes next path k))
+    [ true ↦ λ s. g.too_long path s | false ↦ λ s. met_more takes path k g s ] h
 
 -- what was seen to stays so, and nothing is new to be seen to
-pub seen_more : {answers later : List Heard} {known next long longer : List (List ℕ)} {folder : List ℕ}
+pub seen_more : {answers later : List Heard} {takes : List ℕ → Bool} {known next long longer : List (List ℕ)} {folder : List ℕ}
     {rest : List EntryFacts} → Grows answers later known next long longer
     → ((at : List ℕ) → entries_in later at ≡ entries_in answers at)
-    → AreSeenTo answers known long folder rest → AreSeenTo later next longer folder rest
-seen_more g stays seen = record {
+    → AreSeenTo answers takes known long folder rest → AreSeenTo later takes next longer folder rest
+seen_more {takes} g stays seen = record {
   each = λ at entry h.
       elim (seen.each at entry (subst (λ (es : List EntryFacts). has_entry es entry ≡ true) (stays at) h)) [
-        | inl s ↦ inl (settled_more (child at entry.name) entry.kind g s)
+        | inl s ↦ inl (settled_more takes (child at entry.name) entry.kind g s)
         | inr p ↦ inr p
       ];
 }
 
 -- one more was asked, which was due, and was answered
-pub answered_push : {answers : List Heard} {roots : List (List ℕ)} (h : Heard) → AreAnswered answers roots
-    → IsAskDue (answers ++ h ∷ []) roots h → is_answered h ≡ true
-    → ((path : List ℕ) → Contains roots path → h ≡ stat path Gone → ⊥) → AreAnswered (answers ++ h ∷ []) roots
-answered_push {answers} {roots} h asked due ok there = record {
-  due = due_push answers roots h asked.due due;
+pub answered_push : {answers : List Heard} {scope : Scope} (h : Heard) → AreAnswered answers scope
+    → IsAskDue (answers ++ h ∷ []) scope h → is_answered h ≡ true
+    → ((path : List ℕ) → Contains scope.roots path → h ≡ stat path Gone → ⊥) → AreAnswered (answers ++ h ∷ []) scope
+answered_push {answers} {scope} h asked due ok there = record {
+  due = due_push answers scope h asked.due due;
   answered = list_all-append is_answered answers (h ∷ [])
       ∙ and_from _ _ asked.answered (and_from _ true ok refl);
   there = λ path r c. elim
@@ -70,17 +71,17 @@ answered_push {answers} {roots} h asked due ok there = record {
 }
 
 -- a look reads no folder
-pub folders_look : {answers : List Heard} {roots known todo : List (List ℕ)} (path : List ℕ)
-    (answer : StatAnswer) → AreFolders answers roots known todo
-    → AreFolders (answers ++ stat path answer ∷ []) roots known todo
-folders_look {answers} {roots} {todo} path answer f = record {
-  due = λ p h. (folder_more answers (stat path answer ∷ []) roots p (f.due p h).0, (f.due p h).1);
+pub folders_look : {answers : List Heard} {scope : Scope} {known todo : List (List ℕ)} (path : List ℕ)
+    (answer : StatAnswer) → AreFolders answers scope known todo
+    → AreFolders (answers ++ stat path answer ∷ []) scope known todo
+folders_look {answers} {scope} {todo} path answer f = record {
+  due = λ p h. (folder_more answers (stat path answer ∷ []) scope p (f.due p h).0, (f.due p h).1);
   counts = λ p. ap (λ (n : ℕ). n + count_by (bytes_eq p) todo) (times_past_look answers path answer p)
       ∙ f.counts p;
 }
 
 -- no folder was read twice
-pub few_of : {answers : List Heard} {roots known todo : List (List ℕ)} → AreFolders answers roots known todo
+pub few_of : {answers : List Heard} {scope : Scope} {known todo : List (List ℕ)} → AreFolders answers scope known todo
     → (path : List ℕ) → times_read answers path ≤ 1
 few_of {answers} {known} {todo} f path =
     let all = f.counts path in
@@ -88,8 +89,8 @@ few_of {answers} {known} {todo} f path =
     → times_read answers path ≤ 1) [ true ↦ λ e. omega arith | false ↦ λ e. omega arith ] all
 
 -- what is too long stays so
-pub long_more : {answers : List Heard} {roots paths : List (List ℕ)} (more : List Heard)
-    → AreLong answers roots paths → AreLong (answers ++ more) roots paths
+pub long_more : {answers : List Heard} {scope : Scope} {paths : List (List ℕ)} (more : List Heard)
+    → AreLong answers scope paths → AreLong (answers ++ more) scope paths
 long_more more l = record { each = λ p h. (reached_more more (l.each p h).0, (l.each p h).1); apart = l.apart }
 
 -- one more answer is paid

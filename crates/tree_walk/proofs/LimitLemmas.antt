@@ -1,4 +1,5 @@
 -- What the faults of a walk say of the files that are there.
+use Rattle.path_scope.specs.Scope.{Scope}
 use Rattle.std.proofs.Common.{◌≡◌, ℕ, ◌+◌, ◌≤◌, ◌<◌, inl, inr, Bool, true, false, not, List, [], ◌∷◌, length}
 use Rattle.std.proofs.Common.{map, Result, Ok, Err, IfErr, IsTrue, All, Contains, refl, sym, ap, subst, arith}
 use Rattle.std.specs.Prelude.{sum_by}
@@ -111,52 +112,52 @@ all_distinct (h ∷ rest) few =
 
 -- each of them stands under a root
 under_with : (present : List NameFacts) (folders : List FolderFacts) (answers : List Heard)
-    (roots : List (List ℕ)) (h : Heard) → IsAnswerTold present h → IsAskDue answers roots h
-    → All (IsFolderUnder present roots) folders → All (IsFolderUnder present roots) (with_listed h folders)
-under_with present folders answers roots (read_dir path (listed entries skipped)) told due under =
-    All-cons (IsFolderUnder present roots) (record { path = path; entries = entries }) folders
+    (scope : Scope) (h : Heard) → IsAnswerTold present h → IsAskDue answers scope h
+    → All (IsFolderUnder present scope) folders → All (IsFolderUnder present scope) (with_listed h folders)
+under_with present folders answers scope (read_dir path (listed entries skipped)) told due under =
+    All-cons (IsFolderUnder present scope) (record { path = path; entries = entries }) folders
     (record {
-      under = reached_within (folder_reached answers roots path due.0);
+      under = reached_within (folder_reached answers scope path due.0);
       short = due.1.short;
       listing = told.listing;
     }) under
-under_with present folders answers roots _ told due under = under
+under_with present folders answers scope _ told due under = under
 
-all_under : (present : List NameFacts) (answers : List Heard) (roots : List (List ℕ)) (some : List Heard)
-    → All (IsAnswerTold present) some → All (IsAskDue answers roots) some
-    → All (IsFolderUnder present roots) (folders_of some)
-all_under present answers roots [] told due = All-nil (IsFolderUnder present roots)
-all_under present answers roots (h ∷ rest) told due =
-    under_with present (folders_of rest) answers roots h (All-head (IsAnswerTold present) h rest told)
-    (All-head (IsAskDue answers roots) h rest due)
-    (all_under present answers roots rest (All-tail (IsAnswerTold present) h rest told)
-    (All-tail (IsAskDue answers roots) h rest due))
+all_under : (present : List NameFacts) (answers : List Heard) (scope : Scope) (some : List Heard)
+    → All (IsAnswerTold present) some → All (IsAskDue answers scope) some
+    → All (IsFolderUnder present scope) (folders_of some)
+all_under present answers scope [] told due = All-nil (IsFolderUnder present scope)
+all_under present answers scope (h ∷ rest) told due =
+    under_with present (folders_of rest) answers scope h (All-head (IsAnswerTold present) h rest told)
+    (All-head (IsAskDue answers scope) h rest due)
+    (all_under present answers scope rest (All-tail (IsAnswerTold present) h rest told)
+    (All-tail (IsAskDue answers scope) h rest due))
 
 -- so the folders that were listed have more entries than a walk reads
-many_entries : (present : List NameFacts) {answers : List Heard} {roots : List (List ℕ)}
-    → All (IsAnswerTold present) answers → IsTooManyEntries answers roots → HasManyEntries present roots
-many_entries present {answers} {roots} told end = record {
+many_entries : (present : List NameFacts) {answers : List Heard} {scope : Scope}
+    → All (IsAnswerTold present) answers → IsTooManyEntries answers scope → HasManyEntries present scope
+many_entries present {answers} {scope} told end = record {
   folders = folders_of answers;
   distinct = all_distinct answers end.last.asked.few;
-  each = all_under present answers roots answers told end.last.asked.due;
+  each = all_under present answers scope answers told end.last.asked.due;
   many = subst (λ (n : ℕ). ENTRY_LIMIT < n) (sym (all_counted answers)) end.many;
 }
 
 -- the files that were found are more than a listing has
-many_files : (present : List NameFacts) {answers : List Heard} {roots : List (List ℕ)}
-    → All (IsAnswerTold present) answers → AreFilesTooMany answers roots → HasManyFiles present roots
-many_files present {roots} told end = record {
+many_files : (present : List NameFacts) {answers : List Heard} {scope : Scope}
+    → All (IsAnswerTold present) answers → AreFilesTooMany answers scope → HasManyFiles present scope
+many_files present {scope} told end = record {
   names = end.names;
   by_path = end.listing.by_path;
-  each = All-weaker (Contains end.names) (IsFileUnder present roots)
+  each = All-weaker (Contains end.names) (IsFileUnder present scope)
       (λ name c. walked_under present told ((end.listing.all name).0 c)) end.names
       (All-contains_itself end.names);
   many = end.many;
 }
 
 -- nothing is at the root that is gone
-gone_root : (present : List NameFacts) {answers : List Heard} {roots : List (List ℕ)} {path : List ℕ}
-    → All (IsAnswerTold present) answers → IsRootGone answers roots path → FitsFault present roots (RootGone path)
+gone_root : (present : List NameFacts) {answers : List Heard} {scope : Scope} {path : List ℕ}
+    → All (IsAnswerTold present) answers → IsRootGone answers scope path → FitsFault present scope (RootGone path)
 gone_root present {answers} {path} told gone = (
   subst (λ (rs : List (List ℕ)). Contains rs path) (sym gone.split)
       (Contains-append_right gone.before (path ∷ gone.after) path (0, omega arith, refl)),
@@ -165,17 +166,17 @@ gone_root present {answers} {path} told gone = (
       (Contains-push (looks gone.before gone.given) (stat path Gone))),
 )
 
-cause_fits : (present : List NameFacts) (answers : List Heard) (roots : List (List ℕ)) (fault : WalkFault)
-    → All (IsAnswerTold present) answers → IsCause answers roots fault → FitsFault present roots fault
-cause_fits present answers roots TooMany told end = many_files present told end
-cause_fits present answers roots TooManyEntries told end = many_entries present told end
-cause_fits present answers roots (RootGone path) told end = gone_root present told end
-cause_fits present answers roots _ told end = tt
+cause_fits : (present : List NameFacts) (answers : List Heard) (scope : Scope) (fault : WalkFault)
+    → All (IsAnswerTold present) answers → IsCause answers scope fault → FitsFault present scope fault
+cause_fits present answers scope TooMany told end = many_files present told end
+cause_fits present answers scope TooManyEntries told end = many_entries present told end
+cause_fits present answers scope (RootGone path) told end = gone_root present told end
+cause_fits present answers scope _ told end = tt
 
 -- a fault of a tree that is told and still
-pub fault_fits : {told : Bool} {before after : ShownTree} {roots : List (List ℕ)}
-    (result : Result Walk WalkFault) → WalksTree told before after roots result → IsTrue told → before.Still
-    → IfErr result (FitsFault before.present roots)
+pub fault_fits : {told : Bool} {before after : ShownTree} {scope : Scope}
+    (result : Result Walk WalkFault) → WalksTree told before after scope result → IsTrue told → before.Still
+    → IfErr result (FitsFault before.present scope)
 fault_fits (Ok walk) w t s = tt
-fault_fits {before} {roots} (Err fault) w t s =
-    cause_fits before.present w.goes.more roots fault (w.goes.tells t s) w.goes.ends
+fault_fits {before} {scope} (Err fault) w t s =
+    cause_fits before.present w.goes.more scope fault (w.goes.tells t s) w.goes.ends

@@ -1,4 +1,5 @@
 -- The files that are there under the roots are those that are listed.
+use Rattle.path_scope.specs.Scope.{Scope}
 use Rattle.std.proofs.Common.{◌≡◌, ℕ, ◌+◌, ◌≤◌, ◌<◌, inl, inr, true, false, not, List, [], ◌∷◌, ◌++◌, length}
 use Rattle.std.proofs.Common.{drop, map, Some, None, IsSome, All, Contains, refl, sym, ◌∙◌, ap, subst}
 use Rattle.std.proofs.Common.{append_assoc, length-append, arith}
@@ -48,13 +49,13 @@ joined_some name (next ∷ more) h =
     length-append name (SEPARATOR ∷ join_with_byte SEPARATOR (next ∷ more)) in
     omega (arith, whole, name_long name h)
 
-down : (present : List NameFacts) {answers : List Heard} {roots : List (List ℕ)} (file : NameFacts)
-    → All (IsAnswerTold present) answers → AsksAll answers roots → Contains present file
+down : (present : List NameFacts) {answers : List Heard} {scope : Scope} (file : NameFacts)
+    → All (IsAnswerTold present) answers → AsksAll answers scope → Contains present file
     → length file.path ≤ PATH_LIMIT
     → (folder name : List ℕ) (more : List (List ℕ)) → list_all is_entry_name (name ∷ more) ≡ true
     → file.path ≡ front_under folder ++ join_with_byte SEPARATOR (name ∷ more)
-    → IsReached answers roots folder → IsSome (first_reading answers folder)
-    → IsEntry answers roots kind.File file.path
+    → IsReached answers scope folder → IsSome (first_reading answers folder)
+    → IsEntry answers scope kind.File file.path
 down present {answers} file told full there short folder name [] valid e reached read =
     let named : is_entry_name name ≡ true = (and_parts (is_entry_name name) true valid).0 in
     let under : lies_under folder file.path ≡ true = under_from_front folder name e (name_long name named) in
@@ -151,49 +152,53 @@ root_is_folder present path file Gone apart there under t ok =
 root_is_folder present path file _ apart there under t ok = absurd (false≢true ok)
 
 -- each file under a root is reached
-candidate_from_under : (present : List NameFacts) {answers : List Heard} {roots : List (List ℕ)} {walk : Walk}
-    (file : NameFacts) → IsWholeWalk answers roots walk → All (IsAnswerTold present) answers
+candidate_from_under : (present : List NameFacts) {answers : List Heard} {scope : Scope} {walk : Walk}
+    (file : NameFacts) → IsWholeWalk answers scope walk → All (IsAnswerTold present) answers
     → are_apart (map (λ n. n.path) present) ≡ true → Contains present file → IsCanonPath file.path
-    → (r : List ℕ) → Contains roots r → is_within r file.path ≡ true → IsCandidate answers roots file.path
-candidate_from_under present {answers} {roots} file w told apart there kept r at within =
+    → scope.takes file.path ≡ true → (r : List ℕ) → Contains scope.roots r → is_within r file.path ≡ true → IsCandidate answers scope file.path
+candidate_from_under present {answers} {scope} file w told apart there kept taken r at within =
     elim (or_cases (bytes_eq file.path r) (lies_under r file.path) within) [
-      | inl one ↦ inl (subst (Contains roots) (sym ((bytes_eq-Decides file.path r).0 one)) at)
+      | inl one ↦ inl (subst (Contains scope.roots) (sym ((bytes_eq-Decides file.path r).0 one)) at)
       | inr under ↦ elim (first_look answers r) as (λ o. first_look answers r ≡ o → IsSome o
-          → IsCandidate answers roots file.path) [
+          → IsCandidate answers scope file.path) [
             | None ↦ λ e h. absurd (false≢true h)
             | Some answer ↦ λ e h.
                 let says = told_look present answers told r e in
                 let folder : answer ≡ Folder =
                 root_is_folder present r file answer apart there under says.0 says.1 in
-                let root_kept : IsCanonPath r = (look_was_due answers roots w.once.due r e).1 in
-                let is_folder_r : IsFolder answers roots r =
+                let root_kept : IsCanonPath r = (look_was_due answers scope w.once.due r e).1 in
+                let is_folder_r : IsFolder answers scope r =
                 inl (record { root = at; folder = e ∙ ap (λ (a : StatAnswer). Some a) folder }) in
                 let rest : List ℕ = drop (length (front_under r)) file.path in
                 let below : file.path ≡ front_under r ++ rest =
                 starts_rest (front_under r) file.path (and_parts _ _ under).0 in
-                inr (by_pieces r rest (IsEntry answers roots kind.File file.path) below
-                (names_after r rest root_kept.canonical kept.canonical below (not-true _ (and_parts _ _ under).1))
-                (λ name more valid split. down present file told w.full there kept.short r name more valid split
-                (root r at) (w.full.folders r is_folder_r root_kept.short)))
+                inr (record {
+                  taken = taken;
+                  at = by_pieces r rest (IsEntry answers scope kind.File file.path) below
+                      (names_after r rest root_kept.canonical kept.canonical below (not-true _ (and_parts _ _ under).1))
+                      (λ name more valid split. down present file told w.full there kept.short r name more valid split
+                      (root r at) (w.full.folders r is_folder_r root_kept.short));
+                })
           ] refl (w.full.looked r at)
     ]
 
 -- what is listed is a file under a root
-pub walked_under : (present : List NameFacts) {answers : List Heard} {roots : List (List ℕ)}
-    → All (IsAnswerTold present) answers → {name : NameFacts} → IsWalked answers roots name
-    → IsFileUnder present roots name
-walked_under present {answers} {roots} told {name} walked = record {
+pub walked_under : (present : List NameFacts) {answers : List Heard} {scope : Scope}
+    → All (IsAnswerTold present) answers → {name : NameFacts} → IsWalked answers scope name
+    → IsFileUnder present scope name
+walked_under present {answers} {scope} told {name} walked = record {
   there = file_found present name.path (told_look present answers told name.path walked.file).0;
-  under = candidate_within answers roots name.path walked.candidate;
+  under = candidate_within answers scope name.path walked.candidate;
+  taken = walked.taken;
   short = walked.short;
 }
 
 -- the listing is the files under the roots
-pub files_are : {version : Versions} {tree : ShownTree} {answers : List Heard} {roots : List (List ℕ)}
-    {walk : Walk} → IsWholeWalk answers roots walk → All (IsAnswerTold tree.present) answers
-    → tree.Still → (0 < length roots → IsPresence version tree)
-    → AreFilesUnder tree.present roots walk.listing
-files_are {tree} {answers} {roots} w told still known = record {
+pub files_are : {version : Versions} {tree : ShownTree} {answers : List Heard} {scope : Scope}
+    {walk : Walk} → IsWholeWalk answers scope walk → All (IsAnswerTold tree.present) answers
+    → tree.Still → (0 < length scope.roots → IsPresence version tree)
+    → AreFilesUnder tree.present scope walk.listing
+files_are {tree} {answers} {scope} w told still known = record {
   by_path = w.listing.by_path;
   all = λ name. (
     λ c. walked_under tree.present told ((w.listing.all name).0 c),
@@ -215,15 +220,15 @@ files_are {tree} {answers} {roots} w told still known = record {
               (file_stamp tree.present name distinct there) says.0 says.1)
         ] refl some
 
-    looked_is : (name : NameFacts) → IsCandidate answers roots name.path → length name.path ≤ PATH_LIMIT
+    looked_is : (name : NameFacts) → IsCandidate answers scope name.path → length name.path ≤ PATH_LIMIT
         → IsSome (first_look answers name.path)
     looked_is name (inl r) short = w.full.looked name.path r
     looked_is name (inr e) short = w.full.files name.path e short
 
-    under_is_walked : {name : NameFacts} → IsFileUnder tree.present roots name → IsWalked answers roots name
+    under_is_walked : {name : NameFacts} → IsFileUnder tree.present scope name → IsWalked answers scope name
     under_is_walked {name} u =
-        let at = any_root (λ r. is_within r name.path) roots u.under in
-        let some : 0 < length roots = let lt = at.1.1 in omega arith in
+        let at = any_root (λ r. is_within r name.path) scope.roots u.under in
+        let some : 0 < length scope.roots = let lt = at.1.1 in omega arith in
         let facts = known some in
         let kept : IsCanonPath name.path = record {
           canonical = (bytes_eq-Decides (canon name.path) name.path).0
@@ -231,10 +236,11 @@ files_are {tree} {answers} {roots} w told still known = record {
               facts.canonical u.there);
           short = u.short;
         } in
-        let candidate : IsCandidate answers roots name.path =
-        candidate_from_under tree.present name w told (facts.apart still) u.there kept at.0 at.1 at.2 in
+        let candidate : IsCandidate answers scope name.path =
+        candidate_from_under tree.present name w told (facts.apart still) u.there kept u.taken at.0 at.1 at.2 in
         record {
           candidate = candidate;
+          taken = u.taken;
           short = u.short;
           file = looked_as_file name facts.distinct u.there (looked_is name candidate u.short);
         }

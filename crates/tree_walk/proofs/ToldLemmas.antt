@@ -1,4 +1,5 @@
 -- What the answers say of the files that are there.
+use Rattle.path_scope.specs.Scope.{Scope}
 use Rattle.std.proofs.Common.{◌≡◌, ℕ, inl, inr, true, List, Option, Some, None, IsSome, All}
 use Rattle.std.proofs.Common.{refl, sym, ◌∙◌, ap, subst}
 use Rattle.std.specs.List.{list_any}
@@ -65,21 +66,21 @@ look_finds present path Other at t ok = absurd t
 look_finds present path _ at t ok = absurd (false≢true ok)
 
 -- what lies under the reached paths lies under a root
-pub reached_within : {answers : List Heard} {roots : List (List ℕ)} {path : List ℕ}
-    → IsReached answers roots path → list_any (λ r. is_within r path) roots ≡ true
-reached_within {roots} {path} (root p c) =
-    any_from_Contains (λ r. is_within r path) roots path c
+pub reached_within : {answers : List Heard} {scope : Scope} {path : List ℕ}
+    → IsReached answers scope path → list_any (λ r. is_within r path) scope.roots ≡ true
+reached_within {scope} {path} (root p c) =
+    any_from_Contains (λ r. is_within r path) scope.roots path c
     (or_left (bytes_eq path path) (lies_under path path) ((bytes_eq-Decides path path).1 refl))
-reached_within {roots} (entry folder p k r n) =
-    subst (λ (q : List ℕ). list_any (λ z. is_within z q) roots ≡ true) (sym n.joined)
+reached_within {scope} (entry folder p k r n) =
+    subst (λ (q : List ℕ). list_any (λ z. is_within z q) scope.roots ≡ true) (sym n.joined)
     (any_more (λ z. is_within z folder)
-    (λ z. is_within z (child folder n.name)) roots (λ z h. within_child z folder n.name h)
+    (λ z. is_within z (child folder n.name)) scope.roots (λ z h. within_child z folder n.name h)
     (reached_within r))
 
-pub candidate_within : (answers : List Heard) (roots : List (List ℕ)) (path : List ℕ)
-    → IsCandidate answers roots path → list_any (λ r. is_within r path) roots ≡ true
-candidate_within answers roots path (inl r) = reached_within {answers = answers} (root path r)
-candidate_within answers roots path (inr e) = reached_within (entry e.folder path kind.File e.reached e.named)
+pub candidate_within : (answers : List Heard) (scope : Scope) (path : List ℕ)
+    → IsCandidate answers scope path → list_any (λ r. is_within r path) scope.roots ≡ true
+candidate_within answers scope path (inl r) = reached_within {answers = answers} {scope = scope} (root path r)
+candidate_within answers scope path (inr e) = reached_within (entry e.at.folder path kind.File e.at.reached e.at.named)
 
 -- a folder's entries are those that stand there
 entries_told : (present : List NameFacts) (folder : List ℕ) (answer : DirFacts) (e : EntryFacts)

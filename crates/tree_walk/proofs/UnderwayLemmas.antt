@@ -1,4 +1,5 @@
 -- A walk that is underway goes on.
+use Rattle.path_scope.specs.Scope.{Scope}
 use Rattle.std.proofs.Common.{◌≡◌, ℕ, ◌+◌, ◌≤◌, ◌<◌, inl, inr, Bool, true, List, [], ◌∷◌, ◌++◌, length, Some}
 use Rattle.std.proofs.Common.{None, IsSome, MatchBool, refl, sym, ◌∙◌, ap, subst, drop, get_or}
 use Rattle.std.proofs.lemmas.Bool.{false≢true, lt-ltb, le-ltb}
@@ -26,10 +27,10 @@ use Rattle.tree_walk.proofs.EntrySteps.{folder_step, folder_known, folder_stays,
 use Rattle.tree_walk.proofs.EntrySteps.{long_known, entry_step, with_pending}
 
 -- the roots stay looked at
-still_looked : {answers : List Heard} (more : List Heard) {roots : List (List ℕ)} {search : SearchFacts}
-    (next : SearchFacts) → AreLooked answers roots roots search
+still_looked : {answers : List Heard} (more : List Heard) {scope : Scope} {search : SearchFacts}
+    (next : SearchFacts) → AreLooked answers scope scope.roots search
     → ((path : List ℕ) → has_path search.folders path ≡ true → has_path next.folders path ≡ true)
-    → AreLooked (answers ++ more) roots roots next
+    → AreLooked (answers ++ more) scope scope.roots next
 still_looked {answers} more next looked grows = record {
   looked = λ p c. looked_stays answers more p (looked.looked p c);
   folders = λ p c h. grows p (looked.folders p c (before p (looked.looked p c) h));
@@ -44,12 +45,12 @@ still_looked {answers} more next looked grows = record {
         ] refl some
 
 -- a walk goes on
-pub underway_more : {answers : List Heard} (more : List Heard) {roots : List (List ℕ)}
+pub underway_more : {answers : List Heard} (more : List Heard) {scope : Scope}
     {search next : SearchFacts} {folder to : List ℕ} {rest left : List EntryFacts}
-    → IsUnderway answers roots search folder rest → IsSearch (answers ++ more) roots next to left
+    → IsUnderway answers scope search folder rest → IsSearch (answers ++ more) scope next to left
     → length next.files ≤ LISTING_LIMIT
     → ((path : List ℕ) → has_path search.folders path ≡ true → has_path next.folders path ≡ true)
-    → IsUnderway (answers ++ more) roots next to left
+    → IsUnderway (answers ++ more) scope next to left
 underway_more more {next} u s few grows = record {
   search_is = s;
   few = few;
@@ -58,11 +59,11 @@ underway_more more {next} u s few grows = record {
 }
 
 -- an entry was seen to without a question
-pub underway_none : {answers : List Heard} {roots : List (List ℕ)} {search next : SearchFacts}
-    {folder : List ℕ} {rest left : List EntryFacts} → IsUnderway answers roots search folder rest
-    → IsSearch answers roots next folder left → length next.files ≤ LISTING_LIMIT
+pub underway_none : {answers : List Heard} {scope : Scope} {search next : SearchFacts}
+    {folder : List ℕ} {rest left : List EntryFacts} → IsUnderway answers scope search folder rest
+    → IsSearch answers scope next folder left → length next.files ≤ LISTING_LIMIT
     → ((path : List ℕ) → has_path search.folders path ≡ true → has_path next.folders path ≡ true)
-    → IsUnderway answers roots next folder left
+    → IsUnderway answers scope next folder left
 underway_none u s few grows = record {
   search_is = s;
   few = few;
@@ -71,26 +72,26 @@ underway_none u s few grows = record {
 }
 
 -- an entry whose path isn't too long was seen to
-settled_short : (answers : List Heard) (known long : List (List ℕ)) (path : List ℕ) (k : EntryKind)
-    → length path ≤ PATH_LIMIT → IsEntryMet answers known path k → IsSeenTo answers known long path k
-settled_short answers known long path k short met =
-    subst (λ (b : Bool). MatchBool b (has_path long path ≡ true) (IsEntryMet answers known path k))
+settled_short : (answers : List Heard) (takes : List ℕ → Bool) (known long : List (List ℕ)) (path : List ℕ) (k : EntryKind)
+    → length path ≤ PATH_LIMIT → IsEntryMet answers takes known path k → IsSeenTo answers takes known long path k
+settled_short answers takes known long path k short met =
+    subst (λ (b : Bool). MatchBool b (has_path long path ≡ true) (IsEntryMet answers takes known path k))
     (sym (le-ltb PATH_LIMIT (length path) short)) met
 
 -- an entry that is seen to at its path
-pub settled_at : {answers : List Heard} {roots : List (List ℕ)} {search : SearchFacts} {folder path : List ℕ}
+pub settled_at : {answers : List Heard} {scope : Scope} {search : SearchFacts} {folder path : List ℕ}
     {entry : EntryFacts} {rest : List EntryFacts} (later : List Heard) (next : SearchFacts)
-    → IsNextPath answers roots search folder entry rest path
-    → IsEntryMet later next.folders path entry.kind
-    → IsSeenTo later next.folders next.long (child folder entry.name) entry.kind
-settled_at {path} {entry} later next n met =
-    subst (λ (p : List ℕ). IsSeenTo later next.folders next.long p entry.kind) n.joined
-    (settled_short later next.folders next.long path entry.kind n.kept.short met)
+    → IsNextPath answers scope search folder entry rest path
+    → IsEntryMet later scope.takes next.folders path entry.kind
+    → IsSeenTo later scope.takes next.folders next.long (child folder entry.name) entry.kind
+settled_at {scope} {path} {entry} later next n met =
+    subst (λ (p : List ℕ). IsSeenTo later scope.takes next.folders next.long p entry.kind) n.joined
+    (settled_short later scope.takes next.folders next.long path entry.kind n.kept.short met)
 
 -- the path is that of an entry of the folder
-pub entry_of : {answers : List Heard} {roots : List (List ℕ)} {search : SearchFacts} {folder path : List ℕ}
-    {entry : EntryFacts} {rest : List EntryFacts} → IsNextPath answers roots search folder entry rest path
-    → IsEntry answers roots entry.kind path
+pub entry_of : {answers : List Heard} {scope : Scope} {search : SearchFacts} {folder path : List ℕ}
+    {entry : EntryFacts} {rest : List EntryFacts} → IsNextPath answers scope search folder entry rest path
+    → IsEntry answers scope entry.kind path
 entry_of {folder} {entry} n =
     record {
       folder = folder;
@@ -99,45 +100,45 @@ entry_of {folder} {entry} n =
     }
 
 -- an entry that is a folder
-pub folder_entry : {answers : List Heard} {roots : List (List ℕ)} {search : SearchFacts}
+pub folder_entry : {answers : List Heard} {scope : Scope} {search : SearchFacts}
     {folder path : List ℕ} {entry : EntryFacts} {rest : List EntryFacts} → entry.kind ≡ kind.Folder
-    → IsNextPath answers roots search folder entry rest path
-    → IsUnderway answers roots (with_folder search path) folder rest
-folder_entry {answers} {roots} {search} {path} {entry} is n =
+    → IsNextPath answers scope search folder entry rest path
+    → IsUnderway answers scope (with_folder search path) folder rest
+folder_entry {answers} {scope} {search} {path} {entry} is n =
     let next : SearchFacts = with_folder search path in
-    let at : IsEntry answers roots kind.Folder path =
-    subst (λ (k : EntryKind). IsEntry answers roots k path) is (entry_of n) in
+    let at : IsEntry answers scope kind.Folder path =
+    subst (λ (k : EntryKind). IsEntry answers scope k path) is (entry_of n) in
     let s = folder_step n.next.underway.search_is (inr at) n.kept in
-    let met : IsEntryMet answers next.folders path entry.kind =
-    subst (λ (k : EntryKind). IsEntryMet answers next.folders path k) (sym is) (folder_known search path) in
+    let met : IsEntryMet answers scope.takes next.folders path entry.kind =
+    subst (λ (k : EntryKind). IsEntryMet answers scope.takes next.folders path k) (sym is) (folder_known search path) in
     underway_none n.next.underway (entry_step s (settled_at answers next n met))
     (subst (λ (files : List (List ℕ × StampFacts)). length files ≤ LISTING_LIMIT)
     (sym (folder_files search path)) n.next.underway.few) (folder_stays search path)
 
 -- an entry that is neither a folder nor a file
-pub other_entry : {answers : List Heard} {roots : List (List ℕ)} {search : SearchFacts} {folder path : List ℕ}
+pub other_entry : {answers : List Heard} {scope : Scope} {search : SearchFacts} {folder path : List ℕ}
     {entry : EntryFacts} {rest : List EntryFacts} → entry.kind ≡ kind.Other
-    → IsNextPath answers roots search folder entry rest path
-    → IsUnderway answers roots search folder rest
-other_entry {answers} {search} {path} {entry} is n =
-    let met : IsEntryMet answers search.folders path entry.kind =
-    subst (λ (k : EntryKind). IsEntryMet answers search.folders path k) (sym is) tt in
+    → IsNextPath answers scope search folder entry rest path
+    → IsUnderway answers scope search folder rest
+other_entry {answers} {scope} {search} {path} {entry} is n =
+    let met : IsEntryMet answers scope.takes search.folders path entry.kind =
+    subst (λ (k : EntryKind). IsEntryMet answers scope.takes search.folders path k) (sym is) tt in
     underway_none n.next.underway
     (entry_step n.next.underway.search_is (settled_at answers search n met)) n.next.underway.few (λ p h. h)
 
 -- an entry whose path is too long
-pub long_entry : {answers : List Heard} {roots : List (List ℕ)} {search : SearchFacts} {folder : List ℕ}
-    {entry : EntryFacts} {rest : List EntryFacts} → IsNextEntry answers roots search folder entry rest
+pub long_entry : {answers : List Heard} {scope : Scope} {search : SearchFacts} {folder : List ℕ}
+    {entry : EntryFacts} {rest : List EntryFacts} → IsNextEntry answers scope search folder entry rest
     → PATH_LIMIT < length (child folder entry.name)
-    → IsUnderway answers roots (with_long search (child folder entry.name)) folder rest
-long_entry {answers} {search} {folder} {entry} n long =
+    → IsUnderway answers scope (with_long search (child folder entry.name)) folder rest
+long_entry {answers} {scope} {search} {folder} {entry} n long =
     let path : List ℕ = child folder entry.name in
     let next : SearchFacts = with_long search path in
     let named : IsNamed answers folder entry.kind path =
     record { name = entry.name; listed = n.listed; joined = refl } in
     let s = long_step n.underway.search_is (reached_entry folder path entry.kind n.reached named) long in
-    let settled : IsSeenTo answers next.folders next.long path entry.kind =
-    subst (λ (b : Bool). MatchBool b (has_path next.long path ≡ true) (IsEntryMet answers next.folders path entry.kind))
+    let settled : IsSeenTo answers scope.takes next.folders next.long path entry.kind =
+    subst (λ (b : Bool). MatchBool b (has_path next.long path ≡ true) (IsEntryMet answers scope.takes next.folders path entry.kind))
     (sym (lt-ltb PATH_LIMIT (length path) long)) (long_known search path) in
     underway_none n.underway (entry_step s settled) n.underway.few (λ p h. h)
 
@@ -149,14 +150,14 @@ has_at entries i {e} within here =
     (subst (λ (f : EntryFacts). same_entry e f ≡ true) here (entry_itself e))
 
 -- the entry that comes next
-pub next_from : {answers : List Heard} {roots : List (List ℕ)} {begun search : SearchFacts} {folder : List ℕ}
+pub next_from : {answers : List Heard} {scope : Scope} {begun search : SearchFacts} {folder : List ℕ}
     {entries : List EntryFacts} (more : List Heard) (i : ℕ) {e : EntryFacts}
-    → IsEntered answers roots begun folder entries
+    → IsEntered answers scope begun folder entries
     → i < length entries → e ≡ get_or entries i e
-    → IsUnderway (answers ++ more) roots search folder (drop i entries)
-    → IsNextEntry (answers ++ more) roots search folder e (drop (i + 1) entries)
-next_from {answers} {roots} {search} {folder} {entries} more i {e} entered within here u = record {
-  underway = subst (λ (es : List EntryFacts). IsUnderway (answers ++ more) roots search folder es)
+    → IsUnderway (answers ++ more) scope search folder (drop i entries)
+    → IsNextEntry (answers ++ more) scope search folder e (drop (i + 1) entries)
+next_from {answers} {scope} {search} {folder} {entries} more i {e} entered within here u = record {
+  underway = subst (λ (es : List EntryFacts). IsUnderway (answers ++ more) scope search folder es)
       (drop_more entries i e within ∙ ap (λ (f : EntryFacts). f ∷ drop (i + 1) entries) (sym here)) u;
   reached = reached_more more entered.reached;
   listed = entries_stay answers more folder e
@@ -165,8 +166,8 @@ next_from {answers} {roots} {search} {folder} {entries} more i {e} entered withi
 }
 
 -- with all entries seen to, nothing is pending
-pub all_seen : {answers : List Heard} {roots : List (List ℕ)} {search : SearchFacts} {folder : List ℕ}
-    → IsUnderway answers roots search folder [] → IsUnderway answers roots search [] []
+pub all_seen : {answers : List Heard} {scope : Scope} {search : SearchFacts} {folder : List ℕ}
+    → IsUnderway answers scope search folder [] → IsUnderway answers scope search [] []
 all_seen u = record {
   search_is = with_pending u.search_is (record {
     each = λ at e h. elim (u.search_is.closed.each at e h) [

@@ -1,3 +1,4 @@
+pub use Rattle.path_scope.specs.Scope
 pub use Rattle.row_types.specs.Canon
 pub use Rattle.row_types.specs.Faults
 pub use Rattle.row_types.specs.Name

@@ -4,6 +4,8 @@
 #[cfg(test)]
 mod fills;
 #[cfg(test)]
+mod selected;
+#[cfg(test)]
 mod trees;
 #[cfg(test)]
 mod walks;

@@ -6,6 +6,7 @@ ghost use Rattle.row_types.specs.Canon.{is_canonical};
 ghost use Rattle.tree_trait.specs.Present.{are_distinct};
 ghost use Rattle.tree_trait.specs.Script.{is_stage};
 
+use path_scope::{AllPaths, Selection};
 use row_types::{CanonPath, OpenWorld, Stamp};
 use std::alloc::Global;
 use std::process::Abort;
@@ -13,7 +14,7 @@ use tree_trait::{Found, MemTree, Script, Tree};
 use tree_walk::{Walk, WalkFault, walk};
 
 /// An empty file.
-fn file_at(rt: &impl Abort, alloc: Global, path: &str) -> Found<OpenWorld>
+pub fn file_at(rt: &impl Abort, alloc: Global, path: &str) -> Found<OpenWorld>
     ensures { result.path ≡ path.now }
 {
     let stamp = Stamp {
@@ -37,7 +38,7 @@ fn files_at(rt: &impl Abort, alloc: Global, paths: &[&str]) -> Vec<Found<OpenWor
 }
 
 /// The tree of these files, of which the call of this number fails.
-fn tree_of(
+pub fn tree_of(
     rt: &impl Abort,
     alloc: Global,
     files: Vec<Found<OpenWorld>>,
@@ -54,7 +55,7 @@ fn tree_of(
 }
 
 /// The tree of empty files at the paths, of which the call of this number fails.
-fn tree_at(rt: &impl Abort, alloc: Global, paths: &[&str], bad_call: u64) -> MemTree<OpenWorld>
+pub fn tree_at(rt: &impl Abort, alloc: Global, paths: &[&str], bad_call: u64) -> MemTree<OpenWorld>
     requires { let texts = map (λ path. path.now) paths.now in
         IsTrue (list_all is_canonical texts && are_distinct texts) }
 {
@@ -82,7 +83,7 @@ fn three_folders(rt: &impl Abort, alloc: Global, bad_call: u64) -> MemTree<OpenW
 }
 
 /// The paths of these texts.
-fn paths_of(rt: &impl Abort, alloc: Global, texts: &[&str]) -> Vec<CanonPath> {
+pub fn paths_of(rt: &impl Abort, alloc: Global, texts: &[&str]) -> Vec<CanonPath> {
     let mut paths = Vec::new(alloc);
     for text in texts {
         let text = String::from_str(alloc, text).expect(rt, "memory");
@@ -107,19 +108,21 @@ fn fault_text(rt: &impl Abort, alloc: Global, fault: &WalkFault) -> String {
     let text = match fault {
         WalkFault::RootGone(path) => format!(in alloc; "nothing at {}", path.text()),
         WalkFault::Failed => String::from_str(alloc, "failed"),
+        WalkFault::OutOfMemory => String::from_str(alloc, "no memory"),
         _ => String::from_str(alloc, "another fault"),
     };
     text.expect(rt, "memory")
 }
 
-/// What a walk finds.
-fn walk_text<T: Tree<OpenWorld>>(
+/// What a walk finds of what is selected.
+pub fn walk_text<T: Tree<OpenWorld>, S: Selection>(
     rt: &impl Abort,
     alloc: Global,
     hand: &mut T,
     roots: &[CanonPath],
+    select: &mut S,
 ) -> String {
-    match walk(alloc, hand, roots) {
+    match walk(alloc, hand, roots, select) {
         Ok(found) => found_text(rt, alloc, &found),
         Err(fault) => fault_text(rt, alloc, &fault),
     }
@@ -134,7 +137,7 @@ fn finds<T: Tree<OpenWorld>>(
     want: &str,
 ) {
     let paths = paths_of(rt, alloc, roots);
-    let text = walk_text(rt, alloc, hand, paths.as_slice());
+    let text = walk_text(rt, alloc, hand, paths.as_slice(), &mut AllPaths);
     assert!(rt; text.as_str() == want, "{roots:?}: {text}");
 }
 

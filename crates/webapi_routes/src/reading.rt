@@ -15,7 +15,7 @@ use crate::route::Route;
 use crate::section_name::SectionName;
 use crate::target::{before_query, has_whole_escapes};
 use crate::written::{Written, parts_of};
-use path_canon::{PathFault, canonical};
+use path_scope::{PathFault, canonical};
 use percent_encoding::{DecodeError, percent_decode};
 use row_types::BuildId;
 use std::alloc::{AllocError, Global};

@@ -5,21 +5,23 @@ use crate::states::told::{Step, Version, events_of, scan};
 use index_events::{Event, EventAnswer, EventsEnd, run_events};
 use index_keeper::MemStore;
 use index_state::{GroomTask, Standing};
+use path_canon::Select;
 use row_types::{BuildId, CanonPath, Kind, OpenWorld, TrueRow, Truth};
 use sample_index::{Index, empty_store, opened};
-use sample_rows::{elf, name_text, paths, row};
+use sample_rows::{elf, name, name_text, paths, row};
+use scan_queue::Seen;
 use std::alloc::Global;
 use std::process::Abort;
 use tree_trait::TwoWorld;
 
-/// The name that is to be looked for, with whether it is under a root, or nothing.
+/// The name that is to be looked for, with whether it is marked, or nothing.
 fn task_text(rt: &impl Abort, alloc: Global, task: Option<&GroomTask>) -> String {
     let Some(GroomTask { name, under }) = task else {
         return String::new(alloc);
     };
     let name = name_text(alloc, name).expect(rt, "memory");
-    let place = if *under { "under a root" } else { "under none" };
-    format!(in alloc; "{name}{place}").expect(rt, "memory")
+    let mark = if *under { "marked" } else { "unmarked" };
+    format!(in alloc; "{name}{mark}").expect(rt, "memory")
 }
 
 /// The paths, each with a space behind it.
@@ -101,7 +103,7 @@ static EACH_ANSWER: [&str; 13] = [
     "Added",
     "Opened",
     "Begun(Plan { files: 1, add: 0, replace: 1, drop: 0, keep: 0 })",
-    "/w/a 1, under a root",
+    "/w/a 1, marked",
     "/w/a 2, ",
     "true",
     "2",
@@ -175,15 +177,26 @@ fn executable(rt: &impl Abort, alloc: Global, text: &str, size: u64) -> TrueRow<
     row(alloc, text, size, reading).expect(rt, "a row")
 }
 
+/// Begins a pass over these files under `/`, of what the pattern doesn't exclude.
+fn begins(
+    rt: &impl Abort,
+    alloc: Global,
+    files: &[(&str, u64)],
+    exclude: Option<&str>,
+) -> Event<OpenWorld> {
+    let select = Select::new(alloc, None, exclude).expect(rt, "a pattern");
+    let roots = paths(alloc, &["/"]).expect(rt, "a root");
+    Event::Begin(listing(rt, alloc, files), roots, select)
+}
+
 /// Two executables of one id are published, and looked up.
 fn publishes_and_looks(rt: &impl Abort, alloc: Global) -> Vec<Event<OpenWorld>> {
-    let files = listing(rt, alloc, &[("/a", 4), ("/b", 3)]);
-    let begins = Event::Begin(files, paths(alloc, &["/"]).expect(rt, "a root"));
+    let begin = begins(rt, alloc, &[("/a", 4), ("/b", 3)], None);
     let first = Event::Publish(executable(rt, alloc, "/b", 3));
     let second = Event::Publish(executable(rt, alloc, "/a", 4));
     let id = BuildId::new(b"ab").expect(rt, "two bytes are an id");
     let looks = Event::Look(id, Kind::Executable);
-    vec![in alloc; begins, first, second, looks].expect(rt, "memory")
+    vec![in alloc; begin, first, second, looks].expect(rt, "memory")
 }
 
 /// What is answered to each of them.
@@ -201,4 +214,53 @@ fn a_look_up_finds_the_paths_of_an_id(rt: HostRuntime) {
     let index = opened(alloc, &mut store).ok().expect(&rt, "an index opens");
     let events = publishes_and_looks(&rt, alloc);
     let _came = run(&rt, alloc, &mut store, index, events, FOUND.as_slice());
+}
+
+/// Three files are published, and a pass begins over none of them, which excludes two. Each file is
+/// seen as it was.
+fn publishes_and_excludes(rt: &impl Abort, alloc: Global) -> Vec<Event<OpenWorld>> {
+    let files = [("/a", 1), ("/b", 1), ("/c", 1)];
+    let mut events = Vec::new(alloc);
+    events
+        .push(begins(rt, alloc, &files, None))
+        .expect(rt, "memory");
+    for (path, size) in &files {
+        let row = executable(rt, alloc, path, *size);
+        events.push(Event::Publish(row)).expect(rt, "memory");
+    }
+    events
+        .push(begins(rt, alloc, &[], Some("^/[ac]$")))
+        .expect(rt, "memory");
+    for (path, size) in &files {
+        let name = name(alloc, path, *size).expect(rt, "a name");
+        let seen = Seen::File(name.stamp);
+        events.push(Event::GroomTake).expect(rt, "memory");
+        events.push(Event::Judge(name, seen)).expect(rt, "memory");
+    }
+    events
+}
+
+/// What is answered to each of them: a row that isn't selected goes, though its file is there.
+static EXCLUDED: [&str; 11] = [
+    "Begun(Plan { files: 3, add: 3, replace: 0, drop: 0, keep: 0 })",
+    "Added",
+    "Added",
+    "Added",
+    "Begun(Plan { files: 0, add: 0, replace: 0, drop: 3, keep: 0 })",
+    "/a 1, unmarked",
+    "Dropped",
+    "/b 1, marked",
+    "Strange",
+    "/c 1, unmarked",
+    "Dropped",
+];
+
+#[test]
+fn a_row_that_is_excluded_goes_though_its_file_is_there(rt: HostRuntime) {
+    let alloc = rt.alloc();
+    let mut store = empty_store::<OpenWorld>(alloc, None);
+    let index = opened(alloc, &mut store).ok().expect(&rt, "an index opens");
+    let events = publishes_and_excludes(&rt, alloc);
+    let (rows, _) = run(&rt, alloc, &mut store, index, events, EXCLUDED.as_slice());
+    assert!(rt; rows.as_str() == "/b 1, ");
 }

@@ -6,6 +6,7 @@ ghost use Rattle.tree_trait.specs.TwoWorld.{first_stamp, path as only_path, seco
 use crate::states::helpers::{listing_of, taken_text};
 use index_events::Event;
 use index_state::{Begun, Published};
+use path_canon::{AllPaths, Select};
 use row_types::{BuildId, CanonPath, EDITION, Kind, Name, Reading, Row, Stamp, TrueRow, Why};
 use sample_index::{Index, opened};
 use sample_rows::{path, paths};
@@ -99,7 +100,10 @@ pub enum Step {
 /// The event, as it happens to an index.
 fn event_of(rt: &impl Abort, alloc: Global, step: Step) -> Event<TwoWorld> {
     match step {
-        Step::Begin(version) => Event::Begin(listed(rt, alloc, version), roots(rt, alloc)),
+        Step::Begin(version) => {
+            let all = Select::new(alloc, None, None).expect(rt, "memory");
+            Event::Begin(listed(rt, alloc, version), roots(rt, alloc), all)
+        }
         Step::Take => Event::Take,
         Step::Publish(version) => Event::Publish(row_of(rt, alloc, version)),
         Step::GroomTake => Event::GroomTake,
@@ -134,7 +138,12 @@ pub fn begin_over(
     index: &mut Index<TwoWorld>,
     version: Version,
 ) -> Begun {
-    index.begin(alloc, listed(rt, alloc, version), roots(rt, alloc))
+    index.begin(
+        alloc,
+        listed(rt, alloc, version),
+        roots(rt, alloc),
+        &mut AllPaths,
+    )
 }
 
 /// A pass over a version: its name is taken, and its row is published. What was answered.

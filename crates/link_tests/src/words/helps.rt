@@ -47,20 +47,29 @@ Arguments:
   <DIR>...  The folders, each from / on and of at most 4096 bytes
 
 Options:
-  -d, --database <FILE>  The store of the index; it is made where it isn't there
-  -c, --concurrency <N>  How many files are read at a time, 1 to 64 [default: 4]
-  -F, --scan-file-dir    Changes nothing: files in folders are what is scanned
-  -h, --help             Print help
-  -V, --version          Print version
+  -d, --database <FILE>    The store of the index; it is made where it isn't there
+  -c, --concurrency <N>    How many files are read at a time, 1 to 64 [default: 4]
+  -I, --include <PATTERN>  Only files with a match of this expression in their path are scanned
+  -X, --exclude <PATTERN>  No file with a match of this expression in its path is scanned
+  -F, --scan-file-dir      Changes nothing: files in folders are what is scanned
+  -h, --help               Print help
+  -V, --version            Print version
 
-Walks the folders, reads each file that has no row yet, and keeps the rows in the store. Prints one
-line of counts: files, rows added, replaced, dropped and kept, executables, debug information.
+Walks the folders, reads each selected file that has no row yet, and keeps the rows in the store. Prints
+one line of counts: files, rows added, replaced, dropped and kept, executables, debug information.
+
+A PATTERN is a regular expression, looked for in the whole path of a file: \\.debug$ has a match where
+the path ends so, ^/usr/ where it begins so, and an empty one in each. A file is selected where that of
+-X, if it is there, has no match, and that of -I, if it is there, has one: what both match isn't scanned.
+The row of a file that isn't selected is dropped. A pattern that begins with - is written -X=-x or
+--exclude=-x.
 
 Exit status: 0 done, 1 a call of the file system, the store or the output failed, 2 words that can't
 be read, 3 nothing is at a folder's path, 4 a file was altered or appeared meanwhile, 5 too many files,
 entries, rows or changes, 6 memory was refused, 7 a value that is no row.
 
 Example: dbgd scan -d index.db /usr/bin /usr/lib/debug
+and of shared libraries alone: dbgd scan -d index.db -I '\\.so[.0-9]*$' /usr/lib
 ";
 
 /// Lines that ask for the help of `query`.
@@ -104,18 +113,26 @@ Options:
   -c, --concurrency <N>     Files read, and requests answered, at a time, 1 to 64 [default: 4]
   -p, --port <PORT>         The port, 1 to 65535, on which requests are answered [default: 8002]
   -t, --rescan-time <SECS>  Seconds between scans, 0 to 86400; 0 for one scan alone [default: 300]
+  -I, --include <PATTERN>   Only files with a match of this expression in their path are scanned
+  -X, --exclude <PATTERN>   No file with a match of this expression in its path is scanned
   -F, --scan-file-dir       Changes nothing: files in folders are what is scanned
       --sources <DIRS>      Folders that sources are served from, too, with colons between them
       --upstream <URLS>     Servers to ask for what isn't here, with spaces between them
   -h, --help                Print help
   -V, --version             Print version
 
-Keeps a row for each file under the folders in the store, as dbgd scan does, at its start and again
-after each wait, and answers HTTP requests by what the scans have found: executables, debug files,
+Keeps a row for each selected file under the folders in the store, as dbgd scan does, at its start and
+again after each wait, and answers HTTP requests by what the scans have found: executables, debug files,
 sections and source files by build-id, and its counters at /metrics. Requests that come during the
 first scan wait for its end, later ones for none. A source file is served where a debug file names it
 and it lies under one of the folders or of those of --sources. What isn't found here is asked of the
 servers of --upstream, in order.
+
+A PATTERN is a regular expression, looked for in the whole path of a file: \\.debug$ has a match where
+the path ends so, ^/usr/ where it begins so, and an empty one in each. A file is selected where that of
+-X, if it is there, has no match, and that of -I, if it is there, has one: what both match isn't scanned.
+The row of a file that isn't selected is dropped; source files go by folders alone. A pattern that begins
+with - is written -X=-x or --exclude=-x.
 
 Prints on standard output that it serves, on which port and with how many workers, and then a line of
 counts for each scan; a scan that is cut short says why on standard error, and the next one goes on.

@@ -133,6 +133,40 @@ pub static OPTIONS: [Case; 15] = [
     Case(&["scan", "-d", "m", "--port", "80", "/w"], "usage"),
 ];
 
+/// Lines with patterns. One that isn't a pattern is read all the same.
+pub static PATTERNS: [Case; 24] = [
+    Case(&["scan", "-d", "m", "-I", "x", "/w"], "scan m 4 /w -Ix"),
+    Case(&["scan", "-d", "m", "-X", "x", "/w"], "scan m 4 /w -Xx"),
+    Case(
+        &["scan", "-d", "m", "--include=a|b", "/w", "--exclude", "\\.o$"],
+        "scan m 4 /w -Ia|b -X\\.o$",
+    ),
+    Case(&["scan", "-Xb", "-d", "m", "/w", "-Ia"], "scan m 4 /w -Ia -Xb"),
+    Case(&["scan", "-d", "m", "-I=x", "-X==", "/w"], "scan m 4 /w -Ix -X="),
+    Case(&["scan", "-FI.", "-dm", "/w"], "scan m 4 /w -I."),
+    Case(&["scan", "-d", "m", "-I", "", "/w"], "scan m 4 /w -I"),
+    Case(&["scan", "-d", "m", "--exclude=", "/w"], "scan m 4 /w -X"),
+    Case(&["scan", "-d", "m", "-X=-x", "--include=-I", "/w"], "scan m 4 /w -I-I -X-x"),
+    Case(&["scan", "-d", "m", "-I", "(", "-X", "a b", "/w"], "scan m 4 /w -I( -Xa b"),
+    Case(&["serve", "-d", "m", "-I", "a", "-X", "b", "/w"], "serve m 4 8002 300 /w -Ia -Xb"),
+    Case(
+        &["serve", "-d", "m", "--exclude=-x", "--sources=/s", "--upstream=http://h", "/w"],
+        "serve m 4 8002 300 /w:/s>h:80 -X-x",
+    ),
+    Case(&["serve", "-d", "m", "/w", "-I", ""], "serve m 4 8002 300 /w -I"),
+    Case(&["scan", "-d", "m", "-I", "a", "-I", "a", "/w"], "usage"),
+    Case(&["scan", "-d", "m", "-Xa", "--exclude=b", "/w"], "usage"),
+    Case(&["scan", "-d", "m", "/w", "-I"], "usage"),
+    Case(&["scan", "-d", "m", "/w", "-X"], "usage"),
+    Case(&["scan", "-d", "m", "/w", "--include"], "usage"),
+    Case(&["scan", "-d", "m", "-X", "-x", "/w"], "usage"),
+    Case(&["scan", "-d", "m", "-I", "/w"], "usage"),
+    Case(&["serve", "-d", "m", "-X", "a", "-X", "a", "/w"], "usage"),
+    Case(&["serve", "-d", "m", "--include", "a", "-I", "b", "/w"], "usage"),
+    Case(&["serve", "-d", "m", "/w", "-X"], "usage"),
+    Case(&["query", "-d", "m", "-I", "x", "99be"], "usage"),
+];
+
 /// Lines of `serve`. What follows the number of workers is the port, the seconds from one scan to the
 /// next, the folders, and those for sources.
 pub static SERVERS: [Case; 16] = [

@@ -2,6 +2,7 @@
 
 use crate::passes::passes::{Holds, Pass, run_hands};
 use crate::rig::{FOLDERS, Files, sample_tree};
+use path_scope::AllPaths;
 use sample_index::empty_index;
 use sample_world::SampleWorld;
 use std::alloc::Global;
@@ -167,7 +168,7 @@ fn a_file_is_read_while_another_is_held(rt: HostRuntime) {
     let gate = holding_gate(&rt, alloc);
     let index = empty_index(alloc, None).expect(&rt, "an index");
     let hands = many(&rt, alloc, 4);
-    let (_, end) = run_hands(&rt, alloc, index, hands, &FOLDERS, &gate);
+    let (_, end) = run_hands(&rt, alloc, index, hands, &FOLDERS, &mut AllPaths, &gate);
     assert!(rt; end.as_str() == "12 12 0 0 0 4 4", "{end}");
     assert!(rt; gate.met());
 }

@@ -4,6 +4,7 @@ use crate::passes::ends::end_text;
 use crate::rig::{Files, sample_tree};
 use elf_reading::ElfReader;
 use pass_runner::scan_state;
+use path_scope::{AllPaths, Selection};
 use sample_index::{Index, empty_index};
 use sample_rows::{paths, rows_text};
 use sample_world::SampleWorld;
@@ -74,13 +75,14 @@ pub fn compare(rt: &impl Abort, alloc: Global, pass: &Pass, end: &str, rows: &st
     assert!(rt; rows == wanted.as_str(), "{}: {rows}", pass.shows);
 }
 
-/// Makes a pass with these hands, and says how it ended.
-pub fn run_hands<G: Gate, Rt: Abort + Threads + Wait + Sync>(
+/// Makes a pass over what is selected with these hands, and says how it ended.
+pub fn run_hands<S: Selection, G: Gate, Rt: Abort + Threads + Wait + Sync>(
     rt: &Rt,
     alloc: Global,
     index: Index<SampleWorld>,
     hands: Vec<MemTree<SampleWorld>>,
     roots: &[&str],
+    select: &mut S,
     gate: &G,
 ) -> (Index<SampleWorld>, String) {
     let count = hands.len();
@@ -93,6 +95,7 @@ pub fn run_hands<G: Gate, Rt: Abort + Threads + Wait + Sync>(
         index,
         hands,
         roots.as_slice(),
+        select,
         &ElfReader,
         gate,
     );
@@ -100,16 +103,17 @@ pub fn run_hands<G: Gate, Rt: Abort + Threads + Wait + Sync>(
     (index, end_text(rt, alloc, &end))
 }
 
-/// Makes the pass, with so many hands beside its own, and compares.
-fn run_one<Rt: Abort + Threads + Wait + Sync>(
+/// Makes the pass over what is selected, with so many hands beside its own, and compares.
+pub fn run_one<S: Selection, Rt: Abort + Threads + Wait + Sync>(
     rt: &Rt,
     alloc: Global,
     index: Index<SampleWorld>,
     pass: &Pass,
     others: u64,
+    select: &mut S,
 ) -> Index<SampleWorld> {
     let hands = hands_of(rt, alloc, pass, others);
-    let (index, end) = run_hands(rt, alloc, index, hands, pass.roots, &NoGate);
+    let (index, end) = run_hands(rt, alloc, index, hands, pass.roots, select, &NoGate);
     let rows = rows_text(alloc, index.rows()).expect(rt, "memory");
     compare(rt, alloc, pass, end.as_str(), rows.as_str());
     index
@@ -124,6 +128,6 @@ pub fn run_passes<Rt: Abort + Threads + Wait + Sync>(
 ) {
     let mut index = empty_index(alloc, None).expect(rt, "an index");
     for pass in passes {
-        index = run_one(rt, alloc, index, pass, others);
+        index = run_one(rt, alloc, index, pass, others, &mut AllPaths);
     }
 }

@@ -10,6 +10,7 @@ use crate::passes::whole::WHOLE;
 use crate::rig::FOLDERS;
 use elf_reading::ElfReader;
 use pass_runner::run_pass;
+use path_scope::{AllPaths, Selection};
 use sample_index::{Lock, Shared, Token, Unspared, empty_shared, taken};
 use sample_rows::{paths, rows_text};
 use sample_world::SampleWorld;
@@ -19,14 +20,15 @@ use std::sync::Wait;
 use std::thread::Threads;
 use tree_trait::{Gate, MemTree, NoGate};
 
-/// Makes a pass with these hands by a token of the lock, and says how it ended.
-pub fn pass_by<G: Gate, Rt: Abort + Threads + Wait + Sync>(
+/// Makes a pass over what is selected with these hands by a token of the lock, and says how it ended.
+pub fn pass_by<S: Selection, G: Gate, Rt: Abort + Threads + Wait + Sync>(
     rt: &Rt,
     alloc: Global,
     lock: &Lock<SampleWorld>,
     seat: Token<SampleWorld>,
     hands: Vec<MemTree<SampleWorld>>,
     roots: &[&str],
+    select: &mut S,
     gate: &G,
 ) -> (Token<SampleWorld>, String)
     requires lock { seat.lock ≡ lock.now }
@@ -44,6 +46,7 @@ pub fn pass_by<G: Gate, Rt: Abort + Threads + Wait + Sync>(
         seat,
         hands,
         roots.as_slice(),
+        select,
         &ElfReader,
         gate,
     );
@@ -51,17 +54,18 @@ pub fn pass_by<G: Gate, Rt: Abort + Threads + Wait + Sync>(
     (seat, end_text(rt, alloc, &end))
 }
 
-/// Makes a pass with these hands, and says how it ended.
-pub fn pass<G: Gate, Rt: Abort + Threads + Wait + Sync>(
+/// Makes a pass over what is selected with these hands, and says how it ended.
+pub fn pass<S: Selection, G: Gate, Rt: Abort + Threads + Wait + Sync>(
     rt: &Rt,
     alloc: Global,
     index: Unspared<SampleWorld>,
     hands: Vec<MemTree<SampleWorld>>,
     roots: &[&str],
+    select: &mut S,
     gate: &G,
 ) -> (Unspared<SampleWorld>, String) {
     let Unspared { lock, seat } = index;
-    let (seat, end) = pass_by(rt, alloc, &lock, seat, hands, roots, gate);
+    let (seat, end) = pass_by(rt, alloc, &lock, seat, hands, roots, select, gate);
     (Unspared { lock, seat }, end)
 }
 
@@ -78,16 +82,17 @@ pub fn held_rows<Rt: Abort + Wait>(
     (Unspared { lock, seat }, text)
 }
 
-/// Makes the pass, with so many hands beside its own, and compares.
-fn share_one<Rt: Abort + Threads + Wait + Sync>(
+/// Makes the pass over what is selected, with so many hands beside its own, and compares.
+pub fn share_one<S: Selection, Rt: Abort + Threads + Wait + Sync>(
     rt: &Rt,
     alloc: Global,
     index: Unspared<SampleWorld>,
     step: &Pass,
     others: u64,
+    select: &mut S,
 ) -> Unspared<SampleWorld> {
     let hands = hands_of(rt, alloc, step, others);
-    let (index, end) = pass(rt, alloc, index, hands, step.roots, &NoGate);
+    let (index, end) = pass(rt, alloc, index, hands, step.roots, select, &NoGate);
     let (index, rows) = held_rows(rt, alloc, index);
     compare(rt, alloc, step, end.as_str(), rows.as_str());
     index
@@ -102,7 +107,7 @@ fn share_passes<Rt: Abort + Threads + Wait + Sync>(
 ) {
     let mut index = empty_shared(alloc, None).expect(rt, "an index");
     for step in steps {
-        index = share_one(rt, alloc, index, step, others);
+        index = share_one(rt, alloc, index, step, others, &mut AllPaths);
     }
 }
 
@@ -134,8 +139,16 @@ fn two_passes<Rt: Abort + Threads + Wait + Sync>(
     hands: Vec<MemTree<SampleWorld>>,
 ) -> (String, String, u64) {
     let index = empty_shared(alloc, stop_at).expect(rt, "an index");
-    let (index, end) = pass(rt, alloc, index, hands, &FOLDERS, &NoGate);
-    let (index, then) = pass(rt, alloc, index, many(rt, alloc, 1), &FOLDERS, &NoGate);
+    let (index, end) = pass(rt, alloc, index, hands, &FOLDERS, &mut AllPaths, &NoGate);
+    let (index, then) = pass(
+        rt,
+        alloc,
+        index,
+        many(rt, alloc, 1),
+        &FOLDERS,
+        &mut AllPaths,
+        &NoGate,
+    );
     let Unspared { lock, seat } = index;
     let rows = taken(rt, Shared { lock, seat }).standing().rows;
     (end, then, rows)
@@ -202,7 +215,15 @@ fn a_file_is_read_over_a_lock_while_another_is_held(rt: HostRuntime) {
     let alloc = rt.alloc();
     let gate = holding_gate(&rt, alloc);
     let index = empty_shared(alloc, None).expect(&rt, "an index");
-    let (_, end) = pass(&rt, alloc, index, many(&rt, alloc, 4), &FOLDERS, &gate);
+    let (_, end) = pass(
+        &rt,
+        alloc,
+        index,
+        many(&rt, alloc, 4),
+        &FOLDERS,
+        &mut AllPaths,
+        &gate,
+    );
     assert!(rt; end.as_str() == "12 12 0 0 0 4 4", "{end}");
     assert!(rt; gate.met());
 }

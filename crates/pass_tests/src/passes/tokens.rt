@@ -5,6 +5,7 @@ ghost use Rattle.std.specs.Prelude.{◌≡◌, []};
 use crate::passes::beside::many;
 use crate::passes::shared::{held_rows, pass, pass_by};
 use crate::rig::{FOLDERS, ROWS};
+use path_scope::AllPaths;
 use sample_index::{Unspared, cut, empty_shared};
 use std::thread::join;
 use tree_trait::NoGate;
@@ -23,8 +24,26 @@ fn two_tokens_pass_side_by_side(rt: HostRuntime) {
     let (four, three) = (many(&rt, alloc, 4), many(&rt, alloc, 3));
     let ((one, first), (two, second)) = join(
         &rt,
-        || pass_by(&rt, alloc, &lock, one, four, &FOLDERS, &NoGate),
-        || pass_by(&rt, alloc, &lock, two, three, &FOLDERS, &NoGate),
+        || pass_by(
+            &rt,
+            alloc,
+            &lock,
+            one,
+            four,
+            &FOLDERS,
+            &mut AllPaths,
+            &NoGate,
+        ),
+        || pass_by(
+            &rt,
+            alloc,
+            &lock,
+            two,
+            three,
+            &FOLDERS,
+            &mut AllPaths,
+            &NoGate,
+        ),
     );
     assert!(rt; is_whole_or_undone(first.as_str()), "{first}");
     assert!(rt; is_whole_or_undone(second.as_str()), "{second}");
@@ -32,7 +51,15 @@ fn two_tokens_pass_side_by_side(rt: HostRuntime) {
         seat: lock.join(one, two),
         lock,
     };
-    let (index, end) = pass(&rt, alloc, index, many(&rt, alloc, 2), &FOLDERS, &NoGate);
+    let (index, end) = pass(
+        &rt,
+        alloc,
+        index,
+        many(&rt, alloc, 2),
+        &FOLDERS,
+        &mut AllPaths,
+        &NoGate,
+    );
     assert!(rt; end.starts_with("12 "), "{end}");
     let (_, rows) = held_rows(&rt, alloc, index);
     assert!(rt; rows.as_str() == ROWS);
@@ -50,6 +77,7 @@ fn another_token_sees_what_a_pass_left(rt: HostRuntime) {
         own,
         many(&rt, alloc, 3),
         &FOLDERS,
+        &mut AllPaths,
         &NoGate,
     );
     assert!(rt; end.as_str() == "12 12 0 0 0 4 4", "{end}");

@@ -4,17 +4,18 @@ use crate::passes::passes::{Holds, Pass, run_passes};
 use crate::rig::Files;
 
 /// The rows of the reference tree under `/srv/bin`.
-const BIN: &str =
+pub const BIN: &str =
     "/srv/bin/empty 0, /srv/bin/libx.so 488, /srv/bin/liby.so 408, /srv/bin/prog 1016, ";
 
 /// Those behind them.
-const TOOLS: &str = "/srv/bin/run.sh 10, /srv/bin/tool 408, ";
+pub const TOOLS: &str = "/srv/bin/run.sh 10, /srv/bin/tool 408, ";
 
 /// Those under `/srv/debug`.
-const DEBUG: &str = "/srv/debug/notes.txt 0, /srv/debug/ppc.debug 324, /srv/debug/tool.debug 584, ";
+pub const DEBUG: &str =
+    "/srv/debug/notes.txt 0, /srv/debug/ppc.debug 324, /srv/debug/tool.debug 584, ";
 
 /// Those of the sources.
-const SOURCES: &str = "/w/src/inc/util.h 0, /w/src/main.c 26, ";
+pub const SOURCES: &str = "/w/src/inc/util.h 0, /w/src/main.c 26, ";
 
 /// A walk of the three folders makes 20 calls: a look at each root, a reading of each of them and of
 /// two below them, and a look at each of the twelve files. Reading all of them makes 44 more: each is

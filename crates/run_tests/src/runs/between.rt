@@ -10,6 +10,7 @@ use dbgd_metrics::{Book, Share};
 use dbgd_run::{PassesEnd, keep_passing};
 use elf_reading::ElfReader;
 use http_wire::MemSink;
+use path_scope::AllPaths;
 use row_types::OpenWorld;
 use sample_index::{Unspared, empty_shared};
 use sample_rows::paths;
@@ -81,6 +82,7 @@ fn pass_on<Rt: Abort + Threads + Wait + Sync>(
         seat,
         hands,
         roots.as_slice(),
+        &mut AllPaths,
         &ElfReader,
         clock,
         300,

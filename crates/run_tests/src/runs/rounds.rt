@@ -9,6 +9,7 @@ use dbgd_metrics::{Book, Drawn, Share};
 use dbgd_run::{PassesEnd, keep_passing};
 use elf_reading::ElfReader;
 use http_wire::MemSink;
+use path_scope::AllPaths;
 use row_types::OpenWorld;
 use sample_index::{Unspared, empty_shared};
 use sample_rows::paths;
@@ -157,6 +158,7 @@ fn pass_on<T: Tree<OpenWorld>, Rt: Abort + Threads + Wait + Sync>(
         seat,
         hands,
         roots.as_slice(),
+        &mut AllPaths,
         &ElfReader,
         clock,
         300,

@@ -57,10 +57,17 @@ static OF_FIRST: [Run; 1] = [Run(QUERY, b"", "dbgd: nothing found\n", 3)];
 
 static OF_SECOND: [Run; 1] = [Run(QUERY, b"executable /b\n", "", 0)];
 
-/// Both scans find a value that is no row.
-static BAD: [Run; 2] = [
+/// Both scans find a value that is no row. Where a pattern is refused the store isn't opened.
+static BAD: [Run; 3] = [
     Run(SCAN, b"", "dbgd: bad row /a\n", 7),
     Run(SCAN, b"", "dbgd: bad row /a\ndbgd: bad row /a\n", 7),
+    Run(
+        &["scan", "-d", "m", "-X", "*", "/srv"],
+        b"",
+        "dbgd: bad row /a\ndbgd: bad row /a\nusage: dbgd ident FILE, sources FILE, section FILE NAME, \
+            query -d DB ID, scan -d DB DIR, serve -d DB DIR, trial SEED FILES WORKERS\n",
+        2,
+    ),
 ];
 
 #[test]

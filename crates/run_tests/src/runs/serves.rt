@@ -24,7 +24,7 @@ struct Case {
 }
 
 /// A server needs two hands, and two for each door.
-static CASES: [Case; 4] = [
+static CASES: [Case; 5] = [
     // With no time between passes there is one, and the clock isn't asked.
     Case {
         doors: 1,
@@ -87,7 +87,33 @@ static CASES: [Case; 4] = [
         ),
         waits: &[60, 60],
     },
+    // Of the two files it selects one.
+    Case {
+        doors: 1,
+        hands: 4,
+        rounds: 1,
+        run: Run(
+            &[
+                "serve", "-d", "m", "-c", "1", "-p", "8003", "-t", "60", "-I", "/a$", "/srv",
+            ],
+            b"serving on 8003 with 1 workers\n\
+                scan: 1 files, 1 added, 0 replaced, 0 dropped, 0 kept, 1 executables, 1 debuginfo\n\
+                scan: 1 files, 0 added, 0 replaced, 0 dropped, 1 kept, 1 executables, 1 debuginfo\n",
+            "",
+            0,
+        ),
+        waits: &[60, 60],
+    },
 ];
+
+/// A server with a pattern that is refused.
+static REFUSED: Run = Run(
+    &["serve", "-d", "m", "-c", "1", "-X", "(", "/srv"],
+    b"",
+    "usage: dbgd ident FILE, sources FILE, section FILE NAME, query -d DB ID, \
+        scan -d DB DIR, serve -d DB DIR, trial SEED FILES WORKERS\n",
+    2,
+);
 
 /// A server with so many doors, at each of which a connection asks for no route.
 fn server(
@@ -123,6 +149,16 @@ fn serve_case<Rt: Threads + Wait + Sync + Abort>(rt: &Rt, alloc: Global, case: &
     for door in &server.doors {
         has_ended(rt, door, 1);
         is_answered(rt, door, 0, NO_ROUTE);
+    }
+}
+
+#[test]
+fn a_server_with_a_refused_pattern_serves_nothing(rt: HostRuntime) {
+    let alloc = rt.alloc();
+    let mut server = server(&rt, alloc, 1, 5);
+    serve(&rt, alloc, &mut server, &REFUSED, &[]);
+    for door in &server.doors {
+        has_ended(&rt, door, 0);
     }
 }
 

@@ -10,8 +10,8 @@ use std::thread::Threads;
 static USAGE: &str = "usage: dbgd ident FILE, sources FILE, section FILE NAME, query -d DB ID, \
     scan -d DB DIR, serve -d DB DIR, trial SEED FILES WORKERS\n";
 
-/// Lines that can't be read.
-static UNREADABLE: [&[&str]; 29] = [
+/// Lines that can't be read, and lines with a pattern that is refused.
+static UNREADABLE: [&[&str]; 35] = [
     &[],
     &[""],
     &["frobnicate"],
@@ -32,6 +32,12 @@ static UNREADABLE: [&[&str]; 29] = [
     &["scan", "-d", "m", "/w", "./w"],
     &["scan", "-d", "m", "-c", "0", "/w"],
     &["scan", "-d", "m", "-d", "m", "/w"],
+    &["scan", "-d", "m", "-I", "a", "-I", "a", "/w"],
+    &["scan", "-d", "m", "-X", "a", "--exclude", "b", "/w"],
+    &["scan", "-d", "m", "-I"],
+    &["scan", "-d", "m", "-I", "(", "/w"],
+    &["scan", "-d", "m", "--exclude=[", "-I", "a", "/w"],
+    &["scan", "-d", "m", "-X", "a{1000}{1000}{1000}", "/w"],
     &["serve"],
     &["serve", "-d", "m", "-p", "0", "/w"],
     &["trial"],

@@ -55,6 +55,69 @@ static REFERENCE: [Run; 6] = [
     ),
 ];
 
+/// Scans of the files that a pattern selects, after one of all: the two that it excludes are dropped.
+static EXCLUDED: [Run; 2] = [
+    Run(
+        &["scan", "-d", "m", "/srv/bin", "/srv/debug", "/w"],
+        b"scan: 12 files, 12 added, 0 replaced, 0 dropped, 0 kept, 4 executables, 4 debuginfo\n",
+        "",
+        0,
+    ),
+    Run(
+        &[
+            "scan",
+            "-d",
+            "m",
+            "-X",
+            "\\.debug$",
+            "/srv/bin",
+            "/srv/debug",
+            "/w",
+        ],
+        b"scan: 12 files, 12 added, 0 replaced, 0 dropped, 0 kept, 4 executables, 4 debuginfo\n\
+            scan: 10 files, 0 added, 0 replaced, 2 dropped, 10 kept, 4 executables, 2 debuginfo\n",
+        "",
+        0,
+    ),
+];
+
+/// Into a new store, by both patterns, and then by one in which each path has a match.
+static INCLUDED: [Run; 2] = [
+    Run(
+        &[
+            "scan",
+            "-d",
+            "m",
+            "-I",
+            "/srv/",
+            "-X",
+            "notes",
+            "/srv/bin",
+            "/srv/debug",
+            "/w",
+        ],
+        b"scan: 8 files, 8 added, 0 replaced, 0 dropped, 0 kept, 4 executables, 4 debuginfo\n",
+        "",
+        0,
+    ),
+    Run(
+        &[
+            "scan",
+            "-d",
+            "m",
+            "--exclude",
+            "",
+            "/srv/bin",
+            "/srv/debug",
+            "/w",
+        ],
+        b"scan: 8 files, 8 added, 0 replaced, 0 dropped, 0 kept, 4 executables, 4 debuginfo\n\
+            scan: 0 files, 0 added, 0 replaced, 8 dropped, 0 kept, 0 executables, 0 debuginfo\n",
+        "",
+        0,
+    ),
+];
+
 const ALTERED: &str = "dbgd: altered /srv/a listed 6:100:000000000 seen 7:101:000000000\n";
 
 /// A scan of the file that changes, and another one after it.
@@ -69,6 +132,20 @@ fn the_sample_world_is_read_and_scanned(rt: HostRuntime) {
         told_reference(&rt, alloc, &[]),
         &SOUND,
         &REFERENCE,
+    );
+    run_all(
+        &rt,
+        alloc,
+        told_reference(&rt, alloc, &[]),
+        &SOUND,
+        &EXCLUDED,
+    );
+    run_all(
+        &rt,
+        alloc,
+        told_reference(&rt, alloc, &[]),
+        &SOUND,
+        &INCLUDED,
     );
     // The load comes after a look at the root, its entries, and a look at the file.
     run_all(&rt, alloc, changed_file(&rt, alloc, 3), &SOUND, &CHANGED);

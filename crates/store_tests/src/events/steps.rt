@@ -1,6 +1,7 @@
 //! What happens to the index, and what is answered to it.
 
 use index_events::{Event, EventAnswer};
+use path_canon::Select;
 use row_types::OpenWorld;
 use sample_rows::{name, names, paths, plain};
 use scan_queue::{Listing, Seen};
@@ -59,7 +60,8 @@ fn listing(rt: &impl Abort, alloc: Global, files: &[(&str, u64)]) -> Listing {
 /// The beginning of a pass over these files.
 fn begins(rt: &impl Abort, alloc: Global, files: &[(&str, u64)]) -> Event<OpenWorld> {
     let roots = paths(alloc, &["/"]).expect(rt, "a root");
-    Event::Begin(listing(rt, alloc, files), roots)
+    let select = Select::new(alloc, None, None).ok().expect(rt, "memory");
+    Event::Begin(listing(rt, alloc, files), roots, select)
 }
 
 /// The event, as it happens to an index.

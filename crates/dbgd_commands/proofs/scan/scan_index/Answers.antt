@@ -1,5 +1,6 @@
 -- What the pass was, of the hands that were lent.
 use Rattle.std.proofs.Common.{◌<◌, ℕ, List, length, subst, arith, IsTrue}
+use Rattle.path_scope.specs.Scope.{scope_of}
 use Rattle.row_types.specs.Name.{NameFacts}
 use Rattle.row_types.specs.Rules.{rules}
 use Rattle.index_rows.specs.Rows.{row_names}
@@ -17,7 +18,7 @@ returns-clause-pass g c = record {
   pass =
       subst (λ (n : ℕ). (listing : List NameFacts) × HandsGo
       (λ hand later. EndsPass {K = g.row.K.Denot} (rules g.W.Truth.version g.W.Truth.true_row g.W.Truth.told) g.T.Tree.told
-      g.K.Keeper.told g.K.Keeper.shows n c.args.roots.now listing (g.T.Tree.shows hand) (g.T.Tree.shows later) c.args.state
+      g.K.Keeper.told g.K.Keeper.shows n (scope_of c.args.roots.now (g.P.Selection.takes c.args.select.now)) listing (g.T.Tree.shows hand) (g.T.Tree.shows later) c.args.state
       c.scan_state-state.result.0 c.scan_state-state.result.2)
       (λ hand later. Helps g.T.Tree.told g.W.Truth.version listing (row_names c.args.state.rows) (g.T.Tree.shows hand)
       (g.T.Tree.shows later)) c.args.hands.now.items c.scan_state-state.result.1.items) c.args.hands.now.ok.0

@@ -10,7 +10,7 @@ pub returns-in-Ok-clause-ends : goal.returns-in-Ok-clause-ends
 returns-in-Ok-clause-ends g c = λ from mid into has back.
     ends_passed
     (setting (rules g.W.Truth.version g.W.Truth.true_row g.W.Truth.told) g.T.Tree.told g.T.Tree.shows g.K.Keeper.told)
-    g.K.Keeper.shows c.args.roots.now c.args.hands.now.items c.scan_index-end.new.hands.items c.scan_index-end.result.0 c.in-Ok.ensures.ok
+    g.K.Keeper.shows _ c.args.hands.now.items c.scan_index-end.new.hands.items c.scan_index-end.result.0 c.in-Ok.ensures.ok
     c.scan_index-end.ensures.pass has back
 
 pub returns-in-Err-clause-ends : goal.returns-in-Err-clause-ends

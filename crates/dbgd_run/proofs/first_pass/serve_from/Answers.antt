@@ -11,6 +11,7 @@ returns-clause-later g c = later_trans c.pass_first-lead.ensures.later c.serve_a
 pub returns-clause-serves : goal.returns-clause-serves
 returns-clause-serves g c =
     let made = c.pass_first-lead.ensures.made in
+    let on = rw c.pass_first-lead.ensures.select at c.serve_all-tools.ensures.passes in
     serves_from _ _ _
     (record {
       end = made.0;
@@ -20,4 +21,4 @@ returns-clause-serves g c =
           (streams g.X.O.Stream.shows c.pass_first-lead.new.out c.pass_first-lead.new.err) c.pass_first-lead.result.0.tools.share;
     })
     _ _ _ c.goes_on-passing.result (made.1 (g.X.C.Clock.woke c.args.clock.now)) c.goes_on-passing.ensures
-    c.serve_all-tools.ensures.later.log c.serve_all-tools.ensures.doors c.serve_all-tools.ensures.passes
+    c.serve_all-tools.ensures.later.log c.serve_all-tools.ensures.doors on

@@ -6,21 +6,12 @@ use Rattle.dbgd_run.proofs.RunLemmas.{runs_apart}
 use Rattle.dbgd_run.proofs.outside.run_line.Goals as goal
 
 pub returns-in-Scan-clause-law : goal.returns-in-Scan-clause-law
-returns-in-Scan-clause-law g c =
-    rw c.in-Scan.is
-    (record {
-      runs = rw c.as_slice.ensures.value at c.run_scan.ensures.runs;
-      rest = record {
-        doors = ap (λ doors. map g.X.D.Door.shows doors.items) c.run_scan.ensures.rest.0;
-        links = ap (λ links. rows_shown g.X.L.Link.shows links.items) c.run_scan.ensures.rest.1;
-        woke = ap g.X.C.Clock.woke c.run_scan.ensures.rest.2;
-      };
-    })
+returns-in-Scan-clause-law g c = rw c.in-Scan.is (rw c.as_slice.ensures.value at c.scan_selected.ensures.runs)
 
 pub returns-in-Serve-clause-law : goal.returns-in-Serve-clause-law
 returns-in-Serve-clause-law g c =
     let one = (rw c.in-Serve.is at c.requires.fits).one in
-    rw c.in-Serve.is (c.run_serve.ensures.runs _ ((rw c.in-Serve.is at c.requires.enough) (omega (arith, one))).3)
+    rw c.in-Serve.is (c.serve_selected.ensures.runs _ ((rw c.in-Serve.is at c.requires.enough) (omega (arith, one))).3)
 
 pub returns-in-Trial-clause-law : goal.returns-in-Trial-clause-law
 returns-in-Trial-clause-law g c =
@@ -45,8 +36,8 @@ returns-in_default-clause-law g c =
     })
 
 -- a server's hands are enough by what it needs
-pub run_serve-requires-clause-hands : goal.run_serve-requires-clause-hands
-run_serve-requires-clause-hands g c = λ κs within.
+pub serve_selected-requires-clause-hands : goal.serve_selected-requires-clause-hands
+serve_selected-requires-clause-hands g c = λ κs within.
     let enough = rw c.in-Serve.is at c.requires.enough in
     let fits = rw c.in-Serve.is at c.requires.fits in
     let one = fits.one in
@@ -54,17 +45,17 @@ run_serve-requires-clause-hands g c = λ κs within.
     let hands = (enough (omega (arith, one))).0 in
     omega (arith, hands, most)
 
-pub run_serve-requires-clause-doors : goal.run_serve-requires-clause-doors
-run_serve-requires-clause-doors g c = λ κs within.
+pub serve_selected-requires-clause-doors : goal.serve_selected-requires-clause-doors
+serve_selected-requires-clause-doors g c = λ κs within.
     let one = (rw c.in-Serve.is at c.requires.fits).one in
     ((rw c.in-Serve.is at c.requires.enough) (omega (arith, one))).1
 
-pub run_serve-requires-clause-links : goal.run_serve-requires-clause-links
-run_serve-requires-clause-links g c = λ κs within.
+pub serve_selected-requires-clause-links : goal.serve_selected-requires-clause-links
+serve_selected-requires-clause-links g c = λ κs within.
     let one = (rw c.in-Serve.is at c.requires.fits).one in
     let rows = ((rw c.in-Serve.is at c.requires.enough) (omega (arith, one))).2 in
     omega (arith, rows, c.args.outside.now.links.ok.0)
 
 -- a scan needs a hand
-pub run_scan-requires-clause-hand : goal.run_scan-requires-clause-hand
-run_scan-requires-clause-hand g c = λ κs within. (rw c.in-Scan.is at c.requires.hand) (omega arith)
+pub scan_selected-requires-clause-hand : goal.scan_selected-requires-clause-hand
+scan_selected-requires-clause-hand g c = λ κs within. (rw c.in-Scan.is at c.requires.hand) (omega arith)

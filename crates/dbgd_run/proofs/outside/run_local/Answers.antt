@@ -1,18 +1,13 @@
 -- What the words that are neither a scan nor a server ask was done.
-use Rattle.std.proofs.Common.{length, inl, inr, refl, ap, arith}
+use Rattle.std.proofs.Common.{inl, inr, refl, ap}
 use Rattle.std.specs.Prelude.{map}
-use Rattle.std.specs.String.{string_bytes}
-use Rattle.dbgd_words.specs.Words.{line_of}
-use Rattle.dbgd_run.specs.Needs.{HasHand}
 use Rattle.dbgd_commands.specs.Stage.{rows_shown}
 use Rattle.dbgd_run.proofs.RunLemmas.{runs_apart, runs_words}
 use Rattle.dbgd_run.proofs.outside.run_local.Goals as goal
 
 pub returns-in-Ok-clause-run : goal.returns-in-Ok-clause-run
 returns-in-Ok-clause-run g c =
-    let hand : HasHand (line_of (map string_bytes c.args.words.now)) (length c.args.outside.now.hands.items)
-    = λ needed. let some = c.requires needed in omega (arith, some, c.args.outside.now.hands.ok.0) in
-    runs_words _ _ _ _ c.run_alone.result _ c.code.ensures.code hand
+    runs_words _ _ _ _ c.run_alone.result _ c.code.ensures.code
     (inl (rw (← c.in-Ok.ensures.line)
     (runs_apart _ _ _ _ _ c.run_alone.ensures.law
     (record {
@@ -23,9 +18,7 @@ returns-in-Ok-clause-run g c =
 
 pub returns-in-Err-clause-run : goal.returns-in-Err-clause-run
 returns-in-Err-clause-run g c =
-    let hand : HasHand (line_of (map string_bytes c.args.words.now)) (length c.args.outside.now.hands.items)
-    = λ needed. let some = c.requires needed in omega (arith, some, c.args.outside.now.hands.ok.0) in
-    runs_words _ _ _ _ c.say_no_memory.result _ c.code-in-Err.ensures.code hand
+    runs_words _ _ _ _ c.say_no_memory.result _ c.code-in-Err.ensures.code
     (inr (record {
       options = c.in-Err.ensures.memory;
       alone = record { says = c.say_no_memory.ensures; hands = refl; store = refl };

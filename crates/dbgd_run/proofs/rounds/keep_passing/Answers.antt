@@ -1,6 +1,7 @@
 -- One round more, and how the passing ends.
 use Rattle.std.proofs.Common.{◌∙◌, ℕ, Option, refl, sym, subst, arith}
 use Rattle.std.specs.Option.{IsSome}
+use Rattle.path_scope.specs.Scope.{scope_of}
 use Rattle.row_types.specs.Rules.{rules}
 use Rattle.index_lock.proofs.Later.{later_self, later_trans}
 use Rattle.tree_trait.specs.Clock.{Wakes}
@@ -18,13 +19,14 @@ loop-init g c =
     let s = setting (rules g.W.Truth.version g.W.Truth.true_row g.W.Truth.told) g.T.Tree.told g.T.Tree.shows g.K.Keeper.told in
     let before = pass_stage c.args.seat.seen c.args.hands.items (g.C.Clock.woke c.args.clock.now)
     (streams g.O.Stream.shows c.args.out.now c.args.err.now) c.args.share.now in (
-      keeps_none s c.args.roots.now c.args.secs before,
+      keeps_none s (scope_of c.args.roots.now (g.P.Selection.takes c.args.select.now)) c.args.secs before,
       later_self c.args.seat,
       c.requires.lock,
       refl,
       c.requires.book,
       refl,
       c.requires.row,
+      refl,
     )
 
 pub loop-preserved-in-Written : goal.loop-preserved-in-Written
@@ -40,7 +42,7 @@ loop-preserved-in-Written g c =
     let after = pass_stage c.run_pass-next.result.0.seen c.run_pass-next.result.1.items (g.C.Clock.woke c.wait.new.self)
     (streams g.O.Stream.shows c.note_pass.new.out c.note_pass.new.err) c.note_pass.new.share in
     let round : Round _ = record { end = c.run_pass-next.result.2; fate = c.note_pass.result; after = after } in
-    let is : IsRound s c.args.roots.now c.args.secs now round = record {
+    let is : IsRound s (scope_of c.args.roots.now (g.P.Selection.takes c.args.select.now)) c.args.secs now round = rw (← base.7) (record {
       waits =
           subst (λ (wake : Wake). Wakes (g.C.Clock.woke c.loop.clock) c.args.secs wake (g.C.Clock.woke c.wait.new.self)) c.in-Again.is
           c.wait.ensures.wakes;
@@ -53,15 +55,16 @@ loop-preserved-in-Written g c =
       };
       tells = noted.tells;
       counts = noted.counts;
-    } in
+    }) in
     let back = goes_length _ _ c.loop.hands.items c.run_pass-next.result.1.items ran.pass in (
-      keeps_written s c.args.roots.now c.args.secs before now c.loop.failed round base.0 is c.in-Written.is,
+      keeps_written s (scope_of c.args.roots.now (g.P.Selection.takes c.args.select.now)) c.args.secs before now c.loop.failed round base.0 is c.in-Written.is,
       later_trans base.1 ran.later,
       ran.later.lock ∙ base.2,
       omega (arith, back, c.run_pass-next.result.1.ok.0, c.loop.hands.ok.0),
       noted.same.0 ∙ base.4,
       noted.same.1 ∙ base.5,
       subst (λ (row : Option ℕ). IsSome row) (sym noted.same.1) base.6,
+      ran.same ∙ base.7,
     )
 
 pub loop-preserved : goal.loop-preserved
@@ -77,7 +80,7 @@ loop-preserved g c =
     let after = pass_stage c.run_pass-next.result.0.seen c.run_pass-next.result.1.items (g.C.Clock.woke c.wait.new.self)
     (streams g.O.Stream.shows c.note_pass.new.out c.note_pass.new.err) c.note_pass.new.share in
     let round : Round _ = record { end = c.run_pass-next.result.2; fate = c.note_pass.result; after = after } in
-    let is : IsRound s c.args.roots.now c.args.secs now round = record {
+    let is : IsRound s (scope_of c.args.roots.now (g.P.Selection.takes c.args.select.now)) c.args.secs now round = rw (← base.7) (record {
       waits =
           subst (λ (wake : Wake). Wakes (g.C.Clock.woke c.loop.clock) c.args.secs wake (g.C.Clock.woke c.wait.new.self)) c.in-Again.is
           c.wait.ensures.wakes;
@@ -90,15 +93,16 @@ loop-preserved g c =
       };
       tells = noted.tells;
       counts = noted.counts;
-    } in
+    }) in
     let back = goes_length _ _ c.loop.hands.items c.run_pass-next.result.1.items ran.pass in (
-      keeps_cut s c.args.roots.now c.args.secs before now c.loop.failed round base.0 is c.in-Cut.is,
+      keeps_cut s (scope_of c.args.roots.now (g.P.Selection.takes c.args.select.now)) c.args.secs before now c.loop.failed round base.0 is c.in-Cut.is,
       later_trans base.1 ran.later,
       ran.later.lock ∙ base.2,
       omega (arith, back, c.run_pass-next.result.1.ok.0, c.loop.hands.ok.0),
       noted.same.0 ∙ base.4,
       noted.same.1 ∙ base.5,
       subst (λ (row : Option ℕ). IsSome row) (sym noted.same.1) base.6,
+      ran.same ∙ base.7,
     )
 
 pub returns-in-Stop-clause-passes : goal.returns-in-Stop-clause-passes
@@ -111,8 +115,8 @@ returns-in-Stop-clause-passes g c =
     let base = c.loop.invariant in
     let after = pass_stage c.loop.seat.seen c.loop.hands.items (g.C.Clock.woke c.wait.new.self)
     (streams g.O.Stream.shows c.loop.out c.loop.err) c.loop.share in
-    subst (λ (end : PassesEnd). KeepsPassing s c.args.roots.now c.args.secs before end after) (sym c.stopped_by.ensures)
-    (keeps_stopped s c.args.roots.now c.args.secs before now after c.loop.failed base.0
+    subst (λ (end : PassesEnd). KeepsPassing s (scope_of c.args.roots.now (g.P.Selection.takes c.args.select.now)) c.args.secs before end after) (sym c.stopped_by.ensures)
+    (keeps_stopped s (scope_of c.args.roots.now (g.P.Selection.takes c.args.select.now)) c.args.secs before now after c.loop.failed base.0
     (record {
       waits =
           subst (λ (wake : Wake). Wakes (g.C.Clock.woke c.loop.clock) c.args.secs wake (g.C.Clock.woke c.wait.new.self)) c.in-Stop.is
@@ -133,7 +137,7 @@ returns-in-Unmade-clause-passes g c =
     let after = pass_stage c.run_pass-next.result.0.seen c.run_pass-next.result.1.items (g.C.Clock.woke c.wait.new.self)
     (streams g.O.Stream.shows c.note_pass.new.out c.note_pass.new.err) c.note_pass.new.share in
     let round : Round _ = record { end = c.run_pass-next.result.2; fate = c.note_pass.result; after = after } in
-    let is : IsRound s c.args.roots.now c.args.secs now round = record {
+    let is : IsRound s (scope_of c.args.roots.now (g.P.Selection.takes c.args.select.now)) c.args.secs now round = rw (← base.7) (record {
       waits =
           subst (λ (wake : Wake). Wakes (g.C.Clock.woke c.loop.clock) c.args.secs wake (g.C.Clock.woke c.wait.new.self)) c.in-Again.is
           c.wait.ensures.wakes;
@@ -146,8 +150,8 @@ returns-in-Unmade-clause-passes g c =
       };
       tells = noted.tells;
       counts = noted.counts;
-    } in
-    keeps_unmade s c.args.roots.now c.args.secs before now c.loop.failed round base.0 is c.in-Unmade.is
+    }) in
+    keeps_unmade s (scope_of c.args.roots.now (g.P.Selection.takes c.args.select.now)) c.args.secs before now c.loop.failed round base.0 is c.in-Unmade.is
 
 pub returns-in-Unmade-clause-count : goal.returns-in-Unmade-clause-count
 returns-in-Unmade-clause-count g c =

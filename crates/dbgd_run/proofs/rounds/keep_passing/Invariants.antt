@@ -1,6 +1,7 @@
 -- The rounds so far.
 use Rattle.std.proofs.Common.{◌≡◌, vec_len}
 use Rattle.std.specs.Option.{IsSome}
+use Rattle.path_scope.specs.Scope.{scope_of}
 use Rattle.row_types.specs.Rules.{rules}
 use Rattle.index_lock.specs.Tokens.{IsLater}
 use Rattle.dbgd_commands.specs.Endings.{streams}
@@ -12,7 +13,7 @@ use Rattle.dbgd_run.proofs.rounds.keep_passing.Given as goal
 abbrev pub invariant-loop : goal.invariant-loop
 invariant-loop g l =
     KeepsOn
-    (setting (rules g.W.Truth.version g.W.Truth.true_row g.W.Truth.told) g.T.Tree.told g.T.Tree.shows g.K.Keeper.told) l.roots l.secs
+    (setting (rules g.W.Truth.version g.W.Truth.true_row g.W.Truth.told) g.T.Tree.told g.T.Tree.shows g.K.Keeper.told) (scope_of l.roots (g.P.Selection.takes l.fn.select)) l.secs
     (pass_stage l.fn.seat.seen l.fn.hands.items (g.C.Clock.woke l.fn.clock) (streams g.O.Stream.shows l.fn.out l.fn.err) l.fn.share)
     l.failed
     (pass_stage l.seat.seen l.hands.items (g.C.Clock.woke l.clock) (streams g.O.Stream.shows l.out l.err) l.share)
@@ -22,3 +23,4 @@ invariant-loop g l =
     × (l.share.book ≡ l.book.id)
     × (l.share.row ≡ l.fn.share.row)
     × IsSome l.share.row
+    × (g.P.Selection.takes l.select ≡ g.P.Selection.takes l.fn.select)

@@ -1,10 +1,12 @@
 -- The run of a server, of all hands, doors and rows of links.
-use Rattle.std.proofs.Common.{◌≡◌, List, All, length, sym, subst, arith}
+use Rattle.std.proofs.Common.{◌≡◌, ◌∙◌, List, All, length, sym, subst, arith}
 use Rattle.std.proofs.lemmas.List.Elements.{All-take}
 use Rattle.std.specs.Global.{Vec}
 use Rattle.std.specs.Vec.Iter.{into_iter_items}
 use Rattle.federation.specs.Server.{ServerFacts}
+use Rattle.dbgd_words.specs.Patterns.{pattern_texts}
 use Rattle.dbgd_commands.specs.Endings.{streams}
+use Rattle.dbgd_run.specs.Selecting.{selection_of}
 use Rattle.dbgd_run.specs.Serving.{serve_stage}
 use Rattle.dbgd_run.specs.Workers.{IsFreshShare, links_at}
 use Rattle.dbgd_run.proofs.ServeRuns.{front_all_of, runs_serve}
@@ -24,6 +26,7 @@ returns-clause-runs g c = λ upstream linked.
     let others = into_iter_items hired.rest.other_rows in
     let left = c.serve_store-back in
     let many : c.len-scanned.result ≡ length line.folders.0.items = omega (arith, c.len-scanned.ensures, line.folders.0.ok.0) in
+    let chosen : hired.crew.select ≡ selection_of (pattern_texts line.patterns) = hired.ensures.select ∙ (c.in_ok-matching.ensures ∙ c.requires.select) in
     rw (hired.ensures.hands, ← hired.ensures.doors, hired.ensures.rows, c.dismiss.ensures.hands, c.dismiss.ensures.doors, c.dismiss.ensures.rows)
     (runs_serve _ _ _ _ _ _ others _ _ _ _ _
     made.shares.own made.book hired.crew.workers.all.items
@@ -37,7 +40,7 @@ returns-clause-runs g c = λ upstream linked.
     (subst (All (IsFreshShare made.book)) (sym hired.ensures.shares) made.ensures.others) made.ensures.own made.ensures.rows
     (subst (All (IsLinked upstream)) (front_all_of rows others)
     (All-take (IsLinked upstream) (length rows) _ (subst (All (IsLinked upstream)) hired.ensures.rows linked)))
-    (rw (c.as_slice-folders.ensures.value, c.as_str.ensures.value, many, c.in_ok-folders.ensures, front_all_of line.folders.0.items line.folders.1.items, hired.ensures.own, hired.ensures.book, made.ensures.rows, c.in_ok-text.ensures) at left.ensures.serves)
+    (rw (c.as_slice-folders.ensures.value, c.as_str.ensures.value, many, c.in_ok-folders.ensures, front_all_of line.folders.0.items line.folders.1.items, chosen, hired.ensures.own, hired.ensures.book, made.ensures.rows, c.in_ok-text.ensures) at left.ensures.serves)
     (rw c.as_slice.ensures.value at c.say_serve_end-status.ensures))
 
 pub hire-requires-clause-hands : goal.hire-requires-clause-hands

@@ -1,4 +1,4 @@
-use Rattle.std.proofs.Common.{rules, ◌≡◌, ◌∙◌, ap, sym, false, true, map, option_map}
+use Rattle.std.proofs.Common.{rules, ◌≡◌, ◌∙◌, ap, refl, sym, false, true, map, option_map}
 use Rattle.dbgd_words.proofs.TextLemmas.{asks_all, asks_nothing}
 use Rattle.dbgd_words.proofs.scan.scan_of.Goals as goal
 
@@ -8,6 +8,7 @@ returns-then-not-are_roots c =
     asks_nothing c.in-Some-texts_of.folders.now (sym c.text_of.ensures ∙ ap (option_map (λ text. text.now)) c.in-Some.is)
     (sym c.text_of-2.ensures ∙ ap (option_map (λ text. text.now)) c.in-Some-text_of.is)
     (sym c.number_in.ensures ∙ c.in-Some-number_in.is)
+    refl
     (sym c.texts_of.ensures ∙ ap (option_map (λ texts. map (λ text. text.now) texts.now)) c.in-Some-texts_of.is)
     (sym c.are_roots.ensures ∙ none)
 
@@ -17,5 +18,6 @@ returns c =
     asks_all c.in-Some-texts_of.folders.now (sym c.text_of.ensures ∙ ap (option_map (λ text. text.now)) c.in-Some.is)
     (sym c.text_of-2.ensures ∙ ap (option_map (λ text. text.now)) c.in-Some-text_of.is)
     (sym c.number_in.ensures ∙ c.in-Some-number_in.is)
+    (sym c.patterns_of.ensures)
     (sym c.texts_of.ensures ∙ ap (option_map (λ texts. map (λ text. text.now) texts.now)) c.in-Some-texts_of.is)
     (sym c.are_roots.ensures ∙ each) c.in_ok-roots.ensures

@@ -16,6 +16,7 @@ returns c =
       c.in-Some-texts_of.is,
       ← c.in_ok-sources.ensures,
       ← c.in_ok-others.ensures,
+      ← c.patterns_of.ensures,
       ← c.as_slice.ensures.value,
       ← c.as_slice-2.ensures.value,
     ) c.with_folders.ensures

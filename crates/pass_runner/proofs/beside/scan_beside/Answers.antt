@@ -2,6 +2,7 @@
 use Rattle.std.proofs.Common.{ℕ, List, inl, ap, arith, refl, sym, subst, length}
 use Rattle.std.proofs.lemmas.Bool.{true≢false}
 use Rattle.std.proofs.lemmas.Bool.Decides.{nat_tests}
+use Rattle.path_scope.specs.Scope.{scope_of}
 use Rattle.row_types.specs.Rules.{rules}
 use Rattle.index_rows.specs.Rows.{row_names}
 use Rattle.pass_runner.specs.Passes.{EndsOver}
@@ -43,10 +44,12 @@ returns-in-Ok-apart-clause-over g c =
     goes_with _ _ c.args.hands.items c.together-hands.result.0.items parts.first out.result.1 parts.helpers.items
     out.result.2.items gave.hands c.together-hands.ensures.hands
     (over_weighed {K = g.row.K.Denot} (rules g.W.Truth.version g.W.Truth.true_row g.W.Truth.told) g.T.Tree.told
-    g.K.Keeper.told g.K.Keeper.shows g.T.Tree.shows c.args.hands.len c.args.listing c.args.roots.now parts.first
+    g.K.Keeper.told g.K.Keeper.shows g.T.Tree.shows c.args.hands.len c.args.listing
+    (scope_of c.args.roots.now (g.P.Selection.takes c.args.select.now)) parts.first
     out.result.1 c.args.state out.result.0 c.together-hands.result.1 _ out.result.3 c.weighed.result c.weighed.ensures
     (subst (λ (rs : List (List ℕ)). EndsOver {K = g.row.K.Denot} (rules g.W.Truth.version g.W.Truth.true_row g.W.Truth.told)
-    g.T.Tree.told g.K.Keeper.told g.K.Keeper.shows g.T.Tree.shows c.args.hands.len c.args.listing rs parts.first
+    g.T.Tree.told g.K.Keeper.told g.K.Keeper.shows g.T.Tree.shows c.args.hands.len c.args.listing
+    (scope_of rs (g.P.Selection.takes c.args.select.now)) parts.first
     out.result.1 c.args.state out.result.0 out.result.3) c.in-Ok.ensures.roots.0
     (out.ensures.over c.args.hands.len c.requires.hands)))
     (came_helps g.T.Tree.shows

@@ -7,6 +7,7 @@ use Rattle.row_types.specs.Rules.{rules}
 use Rattle.pass_runner.specs.Helped.{HelpedFrom}
 use Rattle.pass_runner.proofs.BesideLemmas.{not_shared, over_shared, spared_names}
 use Rattle.pass_runner.proofs.PassHands.{hands_none}
+use Rattle.pass_runner.proofs.ScopeLemmas.{same_scope}
 use Rattle.pass_runner.proofs.beside.scan_parts.Goals as goal
 
 pub returns-in-Ok-clause-over : goal.returns-in-Ok-clause-over
@@ -15,7 +16,8 @@ returns-in-Ok-clause-over g c = λ hands some.
     (rules g.W.Truth.version g.W.Truth.true_row g.W.Truth.told) g.T.Tree.told g.K.Keeper.told g.K.Keeper.shows g.T.Tree.shows
     c.args.first c.settle_again-end.new.hand c.in-Ok.state c.settle_again-end.new.state
     c.rows-rows.ensures.holds.rows_replay_the_log.names c.in-Ok.ensures.log c.in-Ok.ensures.origin
-    c.show_index.ensures.skipped_names_stand c.show_index.ensures.log_is_bounded c.requires.again.1 c.requires.again.0 c.settle_again-end.result
+    c.show_index.ensures.skipped_names_stand c.show_index.ensures.log_is_bounded c.requires.again.1
+    (same_scope c.requires.again.0 c.in-Begun.ensures.same) c.settle_again-end.result
     c.settle_again-end.ensures.again
 
 pub returns-in-Ok-clause-helped : goal.returns-in-Ok-clause-helped

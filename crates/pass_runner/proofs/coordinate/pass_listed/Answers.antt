@@ -1,6 +1,7 @@
 -- What the parts came to, as the pass of all hands.
 use Rattle.std.proofs.Common.{◌<◌, List, [], drop, refl, sym, ◌∙◌, ap, subst}
 use Rattle.std.proofs.lemmas.Bool.{true≢false}
+use Rattle.path_scope.specs.Scope.{scope_of}
 use Rattle.row_types.specs.Rules.{rules}
 use Rattle.index_lock.proofs.Later.{later_self}
 use Rattle.pass_runner.specs.Helped.{hands_in}
@@ -20,7 +21,8 @@ returns-in_default-clause-later g c = later_self c.args.desk.seat
 pub returns-in_default-clause-over : goal.returns-in_default-clause-over
 returns-in_default-clause-over g c =
     same_goes _ _ c.args.hands.items c.args.hands.items refl (subst (λ n. 0 < n) c.args.hands.ok.0 c.requires.hand)
-    (λ hand. leads_early (rules g.W.Truth.version g.W.Truth.true_row g.W.Truth.told) c.args.listing c.args.roots.now
+    (λ hand. leads_early (rules g.W.Truth.version g.W.Truth.true_row g.W.Truth.told) c.args.listing
+    (scope_of c.args.roots.now (g.P.Selection.takes c.args.select.now))
     c.args.desk.seat.seen c.args.desk.seat.seen OutOfMemory tt)
     (helps_none g.T.Tree.shows g.T.Tree.told g.W.Truth.version [] [])
 
@@ -36,7 +38,8 @@ pub returns-clause-over : goal.returns-clause-over
 returns-clause-over g c =
     same_goes _ _ c.args.hands.items c.in-Err.hands.items (ap (λ v. v.items) c.in-Err.ensures.err)
     (subst (λ n. 0 < n) c.args.hands.ok.0 c.requires.hand)
-    (λ hand. leads_early (rules g.W.Truth.version g.W.Truth.true_row g.W.Truth.told) c.args.listing c.args.roots.now
+    (λ hand. leads_early (rules g.W.Truth.version g.W.Truth.true_row g.W.Truth.told) c.args.listing
+    (scope_of c.args.roots.now (g.P.Selection.takes c.args.select.now))
     c.args.desk.seat.seen c.args.desk.seat.seen OutOfMemory tt)
     (helps_none g.T.Tree.shows g.T.Tree.told g.W.Truth.version [] [])
 
@@ -53,7 +56,7 @@ returns-in-Ok-apart-clause-over g c =
     goes_with _ _ c.args.hands.items c.together-hands.result.0.items parts.first out.result.1 parts.helpers.items out.result.2.items
     c.in-Ok-apart.ensures.hands c.together-hands.ensures.hands
     (subst (λ (rs : List (List _)). LeadsPass (rules g.W.Truth.version g.W.Truth.true_row g.W.Truth.told) g.T.Tree.told
-    c.args.listing rs c.args.desk.seat.seen out.result.0.seat.seen (g.T.Tree.shows parts.first) (g.T.Tree.shows out.result.1)
+    c.args.listing (scope_of rs (g.P.Selection.takes c.args.select.now)) c.args.desk.seat.seen out.result.0.seat.seen (g.T.Tree.shows parts.first) (g.T.Tree.shows out.result.1)
     out.result.3) c.in-Ok.ensures.roots.0 out.ensures.over)
     (aided_helps g.T.Tree.shows
     g.T.Tree.told g.W.Truth.version parts.helpers.items out.result.2.items out.ensures.helped)

@@ -2,6 +2,7 @@
 use Rattle.std.proofs.Common.{inl, inr, List, ap, refl, subst, ◌∙◌}
 use Rattle.std.specs.List.{AllZip}
 use Rattle.row_types.specs.Name.{NameFacts}
+use Rattle.path_scope.specs.Scope.{scope_of}
 use Rattle.row_types.specs.Rules.{rules}
 use Rattle.index_lock.proofs.Later.{later_trans}
 use Rattle.index_state.specs.State.{Origin}
@@ -11,6 +12,7 @@ use Rattle.index_state.specs.declared.answer.Begun.{Begun}
 use Rattle.pass_runner.specs.Leading.{BeginShows}
 use Rattle.pass_runner.specs.declared.pass_end.PassEnd.TheVariants.{Broken, OutOfMemory}
 use Rattle.pass_runner.proofs.PlannedLemmas.{leads_again, leads_early, settled_sound}
+use Rattle.pass_runner.proofs.ScopeLemmas.{same_scope}
 use Rattle.pass_runner.proofs.coordinate.pass_parts.Goals as goal
 
 pub settle_last-desk-requires-after_bounds : goal.settle_last-desk-requires-after_bounds
@@ -29,7 +31,8 @@ returns-in-Begun-clause-over g c =
     c.begin_one-desk.ensures.later.log
     (subst (λ (b : Begun). BeginShows c.args.listing b c.begin_one-desk.result.0.seat.seen) c.in-Begun.is
     c.begin_one-desk.ensures.shows) c.run_crew-desk.ensures.later.log
-    c.settle_last-desk.ensures.later.log c.requires.again.1 c.requires.again.0 c.settle_last-desk.ensures.over
+    c.settle_last-desk.ensures.later.log c.requires.again.1
+    (same_scope c.requires.again.0 c.begin_one-desk.ensures.same) c.settle_last-desk.ensures.over
 
 pub returns-in-Begun-clause-helped : goal.returns-in-Begun-clause-helped
 returns-in-Begun-clause-helped g c =
@@ -40,7 +43,8 @@ returns-in-Begun-clause-helped g c =
 
 pub returns-in-Broken-clause-over : goal.returns-in-Broken-clause-over
 returns-in-Broken-clause-over g c =
-    leads_early (rules g.W.Truth.version g.W.Truth.true_row g.W.Truth.told) c.args.listing c.args.needs.roots.items
+    leads_early (rules g.W.Truth.version g.W.Truth.true_row g.W.Truth.told) c.args.listing
+    (scope_of c.args.needs.roots.items (g.P.Selection.takes c.args.select.now))
     c.args.desk.seat.seen c.begin_one-desk.result.0.seat.seen Broken
     (record {
       void =
@@ -54,7 +58,8 @@ returns-in-Broken-clause-helped g c = inr refl
 
 pub returns-in-OutOfMemory-clause-over : goal.returns-in-OutOfMemory-clause-over
 returns-in-OutOfMemory-clause-over g c =
-    leads_early (rules g.W.Truth.version g.W.Truth.true_row g.W.Truth.told) c.args.listing c.args.needs.roots.items
+    leads_early (rules g.W.Truth.version g.W.Truth.true_row g.W.Truth.told) c.args.listing
+    (scope_of c.args.needs.roots.items (g.P.Selection.takes c.args.select.now))
     c.args.desk.seat.seen c.begin_one-desk.result.0.seat.seen OutOfMemory tt
 
 pub returns-in-OutOfMemory-clause-helped : goal.returns-in-OutOfMemory-clause-helped

@@ -18,5 +18,5 @@ one_stamp a b h =
 
 pub returns-in-Some : goal.returns-in-Some
 returns-in-Some c = λ yes.
-    sym c.in-Some.ensures
+    sym c.in-Some.ensures.value
     ∙ ap (λ (s : StampFacts). Some s) (one_stamp c.in-Some.stamp c.args.name.now.stamp (sym c.eq.ensures ∙ yes))

@@ -1,5 +1,5 @@
 -- The reading so far.
-use Rattle.std.proofs.Common.{ℕ, List}
+use Rattle.path_scope.specs.Scope.{Scope}
 use Rattle.index_lock.specs.Tokens.{IsLater}
 use Rattle.pass_runner.specs.Leading.{LeadsInSettling}
 use Rattle.pass_runner.proofs.leading.read_left.Given as goal
@@ -7,6 +7,6 @@ use Rattle.pass_runner.proofs.leading.read_left.Given as goal
 abbrev pub invariant-loop : goal.invariant-loop
 invariant-loop g l =
     IsLater l.fn.desk.seat l.seat
-    × ((roots : List (List ℕ))
-    → LeadsInSettling g.T.Tree.told g.W.Truth.version roots l.fn.desk.seat (g.T.Tree.shows l.fn.hand) l.seat (g.T.Tree.shows l.hand)
+    × ((scope : Scope)
+    → LeadsInSettling g.T.Tree.told g.W.Truth.version scope l.fn.desk.seat (g.T.Tree.shows l.fn.hand) l.seat (g.T.Tree.shows l.hand)
     l.fn.met.items l.met.items)

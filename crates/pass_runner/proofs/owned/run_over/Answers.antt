@@ -1,4 +1,5 @@
 use Rattle.std.proofs.Common.{ℕ, List, subst}
+use Rattle.path_scope.specs.Scope.{scope_of}
 use Rattle.row_types.specs.Rules.{rules}
 use Rattle.index_state.specs.Step.{BeginsPass}
 use Rattle.pass_runner.proofs.PassEnds.{fresh_after, over_begun}
@@ -11,6 +12,7 @@ pub returns-in-Begun-clause-over : goal.returns-in-Begun-clause-over
 returns-in-Begun-clause-over g c =
     over_begun {K = g.row.K.Denot} (rules g.W.Truth.version g.W.Truth.true_row g.W.Truth.told) g.T.Tree.told g.K.Keeper.told
     g.K.Keeper.shows g.T.Tree.shows c.args.hand.now c.settle_begun.new.hand c.settle_begun.new.state c.settle_begun.result
-    (subst (λ (xs : List (List ℕ)). BeginsPass c.args.listing xs c.in-Begun.plan c.args.state.now c.begin.new.self)
+    (subst (λ (xs : List (List ℕ)). BeginsPass c.args.listing
+    (scope_of xs (g.P.Selection.takes c.args.select.now)) c.in-Begun.plan c.args.state.now c.begin.new.self)
     c.in-Ok.ensures c.in-Begun.ensures.step)
     c.settle_begun.ensures.ends

@@ -1,5 +1,6 @@
 -- With one hand the pass is its own; with more it is that of all.
 use Rattle.std.proofs.Common.{◌<◌, ℕ, arith, slice_set, subst}
+use Rattle.path_scope.specs.Scope.{scope_of}
 use Rattle.row_types.specs.Rules.{rules}
 use Rattle.index_rows.specs.Rows.{row_names}
 use Rattle.pass_runner.specs.Passes.{EndsOver}
@@ -14,7 +15,7 @@ returns-clause-over g c =
     first_goes _ _ c.args.hands.items c.index_mut.result.now c.run_over-end.new.hand
     (subst (λ n. 0 < n) c.args.hands.ok.0 c.requires.hand) c.index_mut.ensures.value
     (subst (λ (n : ℕ). EndsOver {K = g.row.K.Denot} (rules g.W.Truth.version g.W.Truth.true_row g.W.Truth.told) g.T.Tree.told
-    g.K.Keeper.told g.K.Keeper.shows g.T.Tree.shows n c.args.listing c.args.roots.now c.index_mut.result.now
+    g.K.Keeper.told g.K.Keeper.shows g.T.Tree.shows n c.args.listing (scope_of c.args.roots.now (g.P.Selection.takes c.args.select.now)) c.index_mut.result.now
     c.run_over-end.new.hand c.args.state c.run_over-end.new.state c.run_over-end.result)
     (omega (arith, c.requires.hand)) c.run_over-end.ensures.over)
     (helps_none g.T.Tree.shows g.T.Tree.told g.W.Truth.version c.args.listing (row_names c.args.state.rows))

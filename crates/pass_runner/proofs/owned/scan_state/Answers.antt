@@ -1,8 +1,10 @@
 -- The first hand walks, and the pass over what was listed follows.
-use Rattle.std.proofs.Common.{◌<◌, [], inl, slice_set, refl, subst}
+use Rattle.std.proofs.Common.{◌<◌, ℕ, Bool, List, [], inl, slice_set, refl, subst}
+use Rattle.path_scope.specs.Scope.{scope_of}
 use Rattle.row_types.specs.Rules.{rules}
 use Rattle.index_rows.specs.Rows.{row_names}
 use Rattle.tree_trait.proofs.HandLemmas.{hands_then}
+use Rattle.pass_runner.specs.Passes.{EndsOver}
 use Rattle.pass_runner.proofs.FirstHand.{goes_never, idle_unwalked, loads_past_first, walks_first}
 use Rattle.pass_runner.proofs.PassEnds.{over_walked}
 use Rattle.pass_runner.proofs.PassHands.{first_goes, hands_none, hands_walked}
@@ -16,9 +18,13 @@ returns-in-Ok-clause-pass g c = (
       (subst (λ n. 0 < n) c.args.hands.ok.0 c.requires.hand) c.index_mut.ensures.value
       c.scan_listed.ensures.over
       (λ later over. ends_walked {K = g.row.K.Denot} (rules g.W.Truth.version g.W.Truth.true_row g.W.Truth.told) g.T.Tree.told
-      g.K.Keeper.told g.K.Keeper.shows g.T.Tree.shows c.args.hands.len c.args.roots.now c.index_mut.result.now c.walk.new.hand later
+      g.K.Keeper.told g.K.Keeper.shows g.T.Tree.shows c.args.hands.len (scope_of c.args.roots.now (g.P.Selection.takes c.args.select.now)) c.index_mut.result.now c.walk.new.hand later
       c.args.state c.scan_listed.result.0 c.in-Ok.field-0 c.scan_listed.result.2 c.in-Ok.ensures.walk
-      (λ t. c.in-Ok.ensures.files t.0 t.1) c.walk.ensures.hands over),
+      (λ t. c.in-Ok.ensures.files t.0 t.1) c.walk.ensures.hands
+      (subst (λ (takes : List ℕ → Bool). EndsOver {K = g.row.K.Denot} (rules g.W.Truth.version g.W.Truth.true_row g.W.Truth.told)
+      g.T.Tree.told g.K.Keeper.told g.K.Keeper.shows g.T.Tree.shows c.args.hands.len c.in-Ok.field-0.listing
+      (scope_of c.args.roots.now takes) c.walk.new.hand later c.args.state c.scan_listed.result.0 c.scan_listed.result.2)
+      c.walk.ensures.same over)),
 )
 
 pub returns-in-Ok-clause-hands : goal.returns-in-Ok-clause-hands
@@ -53,7 +59,8 @@ returns-in-Ok-clause-idle g c = λ unwalked.
     absurd (goes_never _ _ (slice_set c.args.hands.items 0 c.walk.new.hand) c.scan_listed.result.1.items
     c.scan_listed.ensures.over
     (λ hand later over. over_walked {K = g.row.K.Denot} (rules g.W.Truth.version g.W.Truth.true_row g.W.Truth.told) g.T.Tree.told
-    g.K.Keeper.told g.K.Keeper.shows g.T.Tree.shows c.args.hands.len c.in-Ok.field-0.listing c.args.roots.now hand later c.args.state
+    g.K.Keeper.told g.K.Keeper.shows g.T.Tree.shows c.args.hands.len c.in-Ok.field-0.listing
+    (scope_of c.args.roots.now (g.P.Selection.takes c.walk.new.select)) hand later c.args.state
     c.scan_listed.result.0 c.scan_listed.result.2 over unwalked))
 
 pub returns-in-Err-clause-idle : goal.returns-in-Err-clause-idle

@@ -1,8 +1,10 @@
 -- The first hand walks, and the pass over what was listed follows.
-use Rattle.std.proofs.Common.{◌<◌, [], inl, slice_set, refl, ◌∙◌, subst}
+use Rattle.std.proofs.Common.{◌<◌, ℕ, Bool, List, [], inl, slice_set, refl, ◌∙◌, subst}
+use Rattle.path_scope.specs.Scope.{scope_of}
 use Rattle.row_types.specs.Rules.{rules}
 use Rattle.index_lock.proofs.Later.{later_self}
 use Rattle.tree_trait.proofs.HandLemmas.{hands_then}
+use Rattle.pass_runner.specs.Leading.{LeadsPass}
 use Rattle.pass_runner.proofs.FirstHand.{goes_never, idle_unwalked, unbegun_idle, walks_first}
 use Rattle.pass_runner.proofs.PassHands.{first_goes, hands_none, hands_walked}
 use Rattle.pass_runner.proofs.PassWalks.{helps_none}
@@ -17,7 +19,10 @@ returns-in-Ok-clause-pass g c =
     c.pass_listed-desk.ensures.over
     (λ later led. ends_shared (rules g.W.Truth.version g.W.Truth.true_row g.W.Truth.told) c.args.seat.seen
     c.pass_listed-desk.result.0.seat.seen c.in-Ok.ensures.walk (λ t. c.in-Ok.ensures.files t.0 t.1) c.walk.ensures.hands
-    c.pass_listed-desk.result.2 led)
+    c.pass_listed-desk.result.2
+    (subst (λ (takes : List ℕ → Bool). LeadsPass (rules g.W.Truth.version g.W.Truth.true_row g.W.Truth.told) g.T.Tree.told
+    c.in-Ok.field-0.listing (scope_of c.args.roots.now takes) c.args.seat.seen c.pass_listed-desk.result.0.seat.seen
+    (g.T.Tree.shows c.walk.new.hand) (g.T.Tree.shows later) c.pass_listed-desk.result.2) c.walk.ensures.same led))
 
 pub returns-in-Ok-clause-hands : goal.returns-in-Ok-clause-hands
 returns-in-Ok-clause-hands g c =
@@ -42,7 +47,10 @@ returns-in-Ok-clause-complete g c =
     c.pass_listed-desk.ensures.over c.pass_listed-desk.ensures.hands)
     (λ later led. done_shared (rules g.W.Truth.version g.W.Truth.true_row g.W.Truth.told) c.args.seat.seen
     c.pass_listed-desk.result.0.seat.seen c.in-Ok.ensures.walk (λ t. c.in-Ok.ensures.files t.0 t.1) c.walk.ensures.hands
-    c.pass_listed-desk.result.2 led)
+    c.pass_listed-desk.result.2
+    (subst (λ (takes : List ℕ → Bool). LeadsPass (rules g.W.Truth.version g.W.Truth.true_row g.W.Truth.told) g.T.Tree.told
+    c.in-Ok.field-0.listing (scope_of c.args.roots.now takes) c.args.seat.seen c.pass_listed-desk.result.0.seat.seen
+    (g.T.Tree.shows c.walk.new.hand) (g.T.Tree.shows later) c.pass_listed-desk.result.2) c.walk.ensures.same led))
 
 pub returns-in-Err-clause-later : goal.returns-in-Err-clause-later
 returns-in-Err-clause-later g c = later_self c.args.seat
