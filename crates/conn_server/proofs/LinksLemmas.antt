@@ -46,6 +46,7 @@ part_both a b c p q one two =
       hears = gains_both a.asked b.asked c.asked p q one.hears two.hears;
       later = omega (arith, early, late);
       rose = omega (arith, first, second, fails);
+      stays = λ none. two.stays (omega (arith, fails, none)) ∙ one.stays (omega (arith, fails, none));
     }
 
 hears_both : (a b c : List ShownLink) (ps qs : List (List LinkHeard)) → HearsEach a ps b → HearsEach b qs c

@@ -1,17 +1,15 @@
 -- One question to one link.
-use Rattle.std.proofs.Common.{◌≡◌, ℕ, ◌≤◌, Bool, true, false, List, [], ◌∷◌, Option, IsSome, refl, sym, ap, ◌∙◌, subst, arith}
-use Rattle.row_types.specs.Faults.{Rose}
+use Rattle.std.proofs.Common.{◌≡◌, ℕ, ◌≤◌, List, [], ◌∷◌, refl}
 use Rattle.http_wire.specs.Told.{Gains}
 use Rattle.federation.specs.AskAll.{IsQuestion}
-use Rattle.federation.specs.Heard.{LinkHeard, LinkSaid, failed, memory, reply, said_by}
+use Rattle.federation.specs.Heard.{LinkHeard, LinkSaid, failed, reply}
 use Rattle.federation.specs.Judging.{JudgesBody}
 use Rattle.federation.specs.Link.{AsksOfLink, ShownLink}
 use Rattle.federation.specs.Replies.{class_asked}
 use Rattle.federation.specs.Rows.{JudgesOne}
 use Rattle.federation.specs.declared.judging.QuestionEnd.{QuestionEnd}
 use Rattle.federation.specs.declared.judging.QuestionEnd.TheVariants as ended
-use Rattle.federation.specs.declared.link.LinkAnswer.{LinkAnswer}
-use Rattle.federation.specs.declared.link.LinkAnswer.TheVariants.{Failed, OutOfMemory, Reply}
+use Rattle.federation.specs.declared.link.LinkAnswer.TheVariants.{Failed, OutOfMemory}
 use Rattle.webapi_routes.specs.declared.route.Route.{Route}
 
 -- what is heard of a response
@@ -25,9 +23,9 @@ question_is question hops said = record { route = refl; with_hops = refl }
 -- the body of a response of status 200 was judged
 pub judges_body : (before after : ShownLink) (route question : Route) (hops status : ℕ) (body : List ℕ) (what : QuestionEnd)
     → Gains before.asked (reply_heard question hops status body ∷ []) after.asked → before.faults ≤ after.faults
-    → status ≡ 200 → JudgesBody route (class_asked question) body what
+    → after.faults ≡ before.faults → status ≡ 200 → JudgesBody route (class_asked question) body what
     → JudgesOne before route question hops after what
-judges_body before after route question hops status body (ended.Passed given) hears later ok judges = record {
+judges_body before after route question hops status body (ended.Passed given) hears later same ok judges = record {
   judged = record {
     heard = reply_heard question hops status body;
     is_question = question_is question hops (reply status body);
@@ -36,8 +34,9 @@ judges_body before after route question hops status body (ended.Passed given) he
   };
   later = later;
   rose = λ is. absurd (cc);
+  stays = λ _. same;
 }
-judges_body before after route question hops status body ended.Refused hears later ok judges = record {
+judges_body before after route question hops status body ended.Refused hears later same ok judges = record {
   judged = record {
     heard = reply_heard question hops status body;
     is_question = question_is question hops (reply status body);
@@ -46,9 +45,10 @@ judges_body before after route question hops status body ended.Refused hears lat
   };
   later = later;
   rose = λ is. absurd (cc);
+  stays = λ _. same;
 }
-judges_body before after route question hops status body ended.Failed hears later ok judges = absurd judges
-judges_body before after route question hops status body ended.OutOfMemory hears later ok judges = record {
+judges_body before after route question hops status body ended.Failed hears later same ok judges = absurd judges
+judges_body before after route question hops status body ended.OutOfMemory hears later same ok judges = record {
   judged = record {
     heard = reply_heard question hops status body ∷ [];
     are_first = (question_is question hops (reply status body), tt);
@@ -57,13 +57,14 @@ judges_body before after route question hops status body ended.OutOfMemory hears
   };
   later = later;
   rose = λ is. absurd (cc);
+  stays = λ _. same;
 }
 
 -- a response of another status doesn't pass
 pub judges_status : (before after : ShownLink) (route question : Route) (hops status : ℕ) (body : List ℕ)
     → Gains before.asked (reply_heard question hops status body ∷ []) after.asked → before.faults ≤ after.faults
-    → (status ≡ 200 → ⊥) → JudgesOne before route question hops after ended.Refused
-judges_status before after route question hops status body hears later other = record {
+    → after.faults ≡ before.faults → (status ≡ 200 → ⊥) → JudgesOne before route question hops after ended.Refused
+judges_status before after route question hops status body hears later same other = record {
   judged = record {
     heard = reply_heard question hops status body;
     is_question = question_is question hops (reply status body);
@@ -72,6 +73,7 @@ judges_status before after route question hops status body hears later other = r
   };
   later = later;
   rose = λ is. absurd (cc);
+  stays = λ _. same;
 }
 
 -- the link failed
@@ -86,6 +88,7 @@ judges_failed before after route question hops asks = record {
   };
   later = asks.cause.later;
   rose = λ is. asks.cause.rose refl;
+  stays = λ other. absurd (other refl);
 }
 
 -- memory was refused
@@ -95,4 +98,5 @@ judges_memory before after route question hops asks = record {
   judged = record { heard = []; are_first = tt; hears = asks.hears; none_failed = refl };
   later = asks.cause.later;
   rose = λ is. absurd (cc);
+  stays = λ _. asks.stays (λ is. cc);
 }

@@ -1,17 +1,15 @@
 -- The questions to one link.
-use Rattle.std.proofs.Common.{◌≡◌, ℕ, ◌+◌, ◌≤◌, Bool, true, false, not, List, [], ◌∷◌, ◌++◌, length, Option, Some, None, All, refl, sym, ap, ◌∙◌, subst, arith, append_assoc, if◌then◌else◌}
-use Rattle.std.specs.Prelude.{IsSome, count_by}
-use Rattle.std.proofs.lemmas.List.{append-nil}
+use Rattle.std.proofs.Common.{◌≡◌, ℕ, ◌+◌, ◌≤◌, Bool, true, false, not, List, [], ◌∷◌, ◌++◌, length, refl, sym, ap, ◌∙◌, subst, arith, if◌then◌else◌}
+use Rattle.std.specs.Prelude.{count_by}
 use Rattle.std.proofs.lemmas.List.Elements.{All-append, All-cons, All-nil}
 use Rattle.std.proofs.lemmas.List.Sums.{sum_by-append}
-use Rattle.std.proofs.lemmas.Option.{same_Some}
-use Rattle.row_types.specs.Faults.{Rose, summed}
+use Rattle.row_types.specs.Faults.{Rose}
 use Rattle.http_wire.specs.Told.{Gains}
 use Rattle.http_wire.proofs.CallLemmas.{gains_both, gains_nothing}
 use Rattle.federation.specs.AskAll.{AreFirstQuestions, AreQuestions, HearsPart, IsQuestion}
 use Rattle.federation.specs.Heard.{LinkHeard, link_failed, link_refused}
 use Rattle.federation.specs.Link.{ShownLink}
-use Rattle.federation.specs.Replies.{FailsToPass, LastReplyPasses, NoReplyPasses, OnlyLastMayPass, questions_of}
+use Rattle.federation.specs.Replies.{FailsToPass, NoReplyPasses, questions_of}
 use Rattle.federation.specs.Rows.{AsksOneLink, HearsOne, JudgesOne, link_end}
 use Rattle.federation.specs.declared.judging.QuestionEnd.{QuestionEnd}
 use Rattle.federation.specs.declared.judging.QuestionEnd.TheVariants as ended
@@ -21,7 +19,7 @@ use Rattle.webapi_routes.specs.declared.route.Route.{Route}
 
 -- a link heard nothing
 part_nothing : (shown : ShownLink) → HearsPart shown [] shown
-part_nothing shown = record { hears = gains_nothing shown.asked; later = omega arith; rose = omega arith }
+part_nothing shown = record { hears = gains_nothing shown.asked; later = omega arith; rose = omega arith; stays = λ _. refl }
 
 -- the count of one answer
 count_one : (h : LinkHeard) (b : Bool) → link_failed h ≡ b → count_by link_failed (h ∷ []) ≡ 0 + (if b then 1 else 0)
@@ -32,14 +30,20 @@ refused_one h b is = ap (λ (c : Bool). 0 + (if not c then 1 else 0)) is
 
 -- a link heard one question
 part_one : (before after : ShownLink) (h : LinkHeard) (b : Bool) → link_failed h ≡ b → Gains before.asked (h ∷ []) after.asked
-    → before.faults ≤ after.faults → (b ≡ true → Rose before.faults after.faults) → HearsPart before (h ∷ []) after
-part_one before after h true is hears later rose =
+    → before.faults ≤ after.faults → (b ≡ true → Rose before.faults after.faults)
+    → (b ≡ false → after.faults ≡ before.faults) → HearsPart before (h ∷ []) after
+part_one before after h true is hears later rose stays =
     let up = rose refl in
     let one = count_one h true is in
-    record { hears = hears; later = later; rose = omega arith }
-part_one before after h false is hears later rose =
+    record {
+      hears = hears;
+      later = later;
+      rose = omega arith;
+      stays = λ none. let no : ⊥ = omega (arith, one, none) in absurd no;
+    }
+part_one before after h false is hears later rose stays =
     let none = count_one h false is in
-    record { hears = hears; later = later; rose = omega arith }
+    record { hears = hears; later = later; rose = omega arith; stays = λ _. stays refl }
 
 -- a link heard some and then more
 parts_both : (before mid after : ShownLink) (some more : List LinkHeard) → HearsPart before some mid → HearsPart mid more after
@@ -55,6 +59,7 @@ parts_both before mid after some more first next_ =
       hears = gains_both before.asked mid.asked after.asked some more first.hears next_.hears;
       later = omega arith;
       rose = omega arith;
+      stays = λ none. next_.stays (omega (arith, both, none)) ∙ first.stays (omega (arith, both, none));
     }
 
 questions_more : (hops : ℕ) (qs : List Route) (q : Route) (front : List LinkHeard) (h : LinkHeard) → AreQuestions hops qs front
@@ -119,10 +124,10 @@ FailsOne before route q hops after b = HearsOne before q hops after (λ h. Fails
 -- one that comes behind others
 front_more : (before mid after : ShownLink) (route q : Route) (hops : ℕ) (qs : List Route) (refused failed r f : ℕ) (b : Bool)
     → Front before route hops qs mid refused failed → FailsOne mid route q hops after b → mid.faults ≤ after.faults
-    → (b ≡ true → Rose mid.faults after.faults)
+    → (b ≡ true → Rose mid.faults after.faults) → (b ≡ false → after.faults ≡ mid.faults)
     → r ≡ refused + (0 + (if not b then 1 else 0)) → f ≡ failed + (0 + (if b then 1 else 0))
     → Front before route hops (qs ++ q ∷ []) after r f
-front_more before mid after route q hops qs refused failed r f b had judged later rose refuses fails =
+front_more before mid after route q hops qs refused failed r f b had judged later rose stays refuses fails =
     let h = judged.heard in
     let was_refused = had.refused_is in
     let was_failed = had.failed_is in
@@ -135,7 +140,7 @@ front_more before mid after route q hops qs refused failed r f b had judged late
     record {
       front = had.front ++ h ∷ [];
       part = parts_both before mid after had.front (h ∷ []) had.part
-          (part_one mid after h b judged.says.1 judged.hears later rose);
+          (part_one mid after h b judged.says.1 judged.hears later rose stays);
       are = questions_more hops qs q had.front h had.are judged.is_question;
       none = All-append (FailsToPass route) had.front (h ∷ []) had.none
           (All-cons (FailsToPass route) h [] judged.says.0 (All-nil (FailsToPass route)));
@@ -149,14 +154,14 @@ front_refused : (before mid after : ShownLink) (route q : Route) (hops : ℕ) (q
     → Front before route hops (qs ++ q ∷ []) after (refused + 1) failed
 front_refused before mid after route q hops qs refused failed had judges =
     front_more before mid after route q hops qs refused failed (refused + 1) failed false had judges.judged judges.later
-    (λ is. absurd (cc)) (omega arith) (omega arith)
+    (λ is. absurd (cc)) (λ _. judges.stays (λ is. cc)) (omega arith) (omega arith)
 
 front_failed : (before mid after : ShownLink) (route q : Route) (hops : ℕ) (qs : List Route) (refused failed : ℕ)
     → Front before route hops qs mid refused failed → JudgesOne mid route q hops after ended.Failed
     → Front before route hops (qs ++ q ∷ []) after refused (failed + 1)
 front_failed before mid after route q hops qs refused failed had judges =
     front_more before mid after route q hops qs refused failed refused (failed + 1) true had judges.judged judges.later
-    (λ is. judges.rose refl) (omega arith) (omega arith)
+    (λ is. judges.rose refl) (λ is. absurd (cc)) (omega arith) (omega arith)
 
 -- all questions were asked, and nothing passes
 nothing_passed : (before after : ShownLink) (route : Route) (hops : ℕ) (qs : List Route) (refused failed : ℕ)
@@ -177,7 +182,8 @@ one_passes before mid after route q hops qs rest refused failed given had judges
     record {
       heard = had.front ++ h ∷ [];
       part = parts_both before mid after had.front (h ∷ []) had.part
-          (part_one mid after h false judges.judged.says.2 judges.judged.hears judges.later (λ is. absurd (cc)));
+          (part_one mid after h false judges.judged.says.2 judges.judged.hears judges.later (λ is. absurd (cc))
+          (λ _. judges.stays (λ is. cc)));
       tells = (
         subst (λ ps. AreFirstQuestions hops ps (had.front ++ h ∷ [])) (sym all)
             (first_more hops qs (q ∷ rest) had.front (h ∷ []) had.are (judges.judged.is_question, tt)),
@@ -203,7 +209,7 @@ one_stops before mid after route q hops qs rest refused failed had judges all =
     record {
       heard = had.front ++ more;
       part = parts_both before mid after had.front more had.part
-          (record { hears = judges.judged.hears; later = late; rose = omega arith });
+          (record { hears = judges.judged.hears; later = late; rose = omega arith; stays = λ _. judges.stays (λ is. cc) });
       tells = (
         subst (λ ps. AreFirstQuestions hops ps (had.front ++ more)) (sym all)
             (first_more hops qs (q ∷ rest) had.front more had.are (first_wider hops q rest more judges.judged.are_first)),

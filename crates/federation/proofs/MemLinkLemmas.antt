@@ -1,12 +1,10 @@
 -- The link in memory.
-use Rattle.std.proofs.Common.{◌≡◌, ℕ, ◌<◌, ◌≤◌, ◌⊎◌, inl, inr, List, [], ◌∷◌, ◌++◌, Option, Some, length, map, slice_index_or, refl, sym, ap, ◌∙◌, subst, arith}
+use Rattle.std.proofs.Common.{◌≡◌, ℕ, ◌<◌, ◌≤◌, inl, inr, List, [], ◌∷◌, ◌++◌, Some, length, map, slice_index_or, refl, sym, ap, ◌∙◌, arith}
 use Rattle.std.proofs.lemmas.List.{append-nil}
-use Rattle.row_types.specs.Faults.{raised}
 use Rattle.federation.specs.Heard.{LinkHeard, LinkSaid, failed, memory, reply, said_by}
-use Rattle.federation.specs.Link.{AsksOfLink, ShownLink, heard_by}
-use Rattle.federation.specs.MemLink.{AnswersScript, GivesScripted, MemLinkFacts, after_answer, count_said, heard_one, later_said, next_said, shown_mem_link}
+use Rattle.federation.specs.Link.{AsksOfLink, heard_by}
+use Rattle.federation.specs.MemLink.{AnswersScript, GivesScripted, MemLinkFacts, count_said, heard_one, later_said, next_said, shown_mem_link}
 use Rattle.federation.specs.declared.link.LinkAnswer.{LinkAnswer}
-use Rattle.http_wire.proofs.CallLemmas.{gains_nothing}
 use Rattle.webapi_routes.specs.declared.route.Route.{Route}
 
 -- what memory is refused for isn't heard
@@ -49,6 +47,12 @@ answers_noted old mid new route hops said q some is noted gives =
       gives.after ∙ cc (scripts, counts, asks),
     )
 
+-- the count stays where the link didn't fail
+count_other : (said : LinkSaid) (faults : ℕ) → (said ≡ failed → ⊥) → count_said said faults ≡ faults
+count_other (reply status body) faults other = refl
+count_other failed faults other = absurd (other refl)
+count_other memory faults other = refl
+
 -- what the link shows then
 pub asks_by : (old new : MemLinkFacts) (route : Route) (hops : ℕ) (answer : LinkAnswer) → AnswersScript old route hops (said_by answer) new
     → old.faults ≤ new.faults → AsksOfLink (shown_mem_link old) route hops answer (shown_mem_link new)
@@ -61,11 +65,13 @@ asks_by old new route hops answer (inl got) later = record {
         let same = ap (λ m. m.faults) got.1 ∙ ap (λ s. count_said s old.faults) (sym got.0 ∙ is) in
         omega (arith, same);
   };
+  stays = λ other. ap (λ m. m.faults) got.1 ∙ count_other (next_said old.script) old.faults (λ is. other (got.0 ∙ is));
 }
 asks_by old new route hops answer (inr refused) later = record {
   hears = λ some. ap (λ m. Some m.asked) refused.1
       ∙ sym (ap (λ s. Some (old.asked ++ heard_by route hops s)) refused.0 ∙ ap Some (append-nil old.asked));
   cause = record { later = later; rose = λ is. let wrong : failed ≡ memory = sym is ∙ refused.0 in absurd (cc) };
+  stays = λ _. ap (λ m. m.faults) refused.1;
 }
 
 -- what the next answer says

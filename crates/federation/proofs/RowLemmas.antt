@@ -6,18 +6,16 @@ use Rattle.std.proofs.lemmas.List.Elements.{All-append, All-cons, All-nil}
 use Rattle.std.proofs.lemmas.List.Sums.{sum_by-append}
 use Rattle.answer_check.specs.declared.passed.Passed.{Passed}
 use Rattle.answer_check.specs.declared.passed.Passed.TheVariants as passed
-use Rattle.federation.specs.AskAll.{AllAsked, AreQuestions, AsksInOrder, AsksLinks, HearsEach, all_heard}
+use Rattle.federation.specs.AskAll.{AreQuestions, AsksLinks, HearsEach, all_heard}
 use Rattle.federation.specs.Heard.{LinkHeard, link_failed, link_refused}
 use Rattle.federation.specs.Link.{ShownLink}
-use Rattle.federation.specs.Replies.{FailsToPass, LastReplyPasses, NoReplyPasses, OnlyLastMayPass, questions_of}
-use Rattle.federation.specs.Rows.{AsksOneLink, AsksRow, upstream_given, upstream_of_row, with_more}
-use Rattle.federation.specs.declared.asking.Upstream.{Upstream}
+use Rattle.federation.specs.Replies.{FailsToPass, LastReplyPasses, OnlyLastMayPass, questions_of}
+use Rattle.federation.specs.Rows.{AsksOneLink, AsksRow, upstream_of_row, with_more}
 use Rattle.federation.specs.declared.asking.Upstream.TheVariants.{HopLimit, Nobody}
 use Rattle.federation.specs.declared.link_row.RowEnd.{RowEnd}
 use Rattle.federation.specs.declared.link_row.RowEnd.TheVariants as row
 use Rattle.federation.specs.declared.one_link.LinkEnd.TheVariants as link
 use Rattle.http_wire.proofs.CallLemmas.{gains_nothing}
-use Rattle.federation.proofs.LinkLemmas.{first_of_all}
 use Rattle.webapi_routes.specs.declared.route.Route.{Route}
 
 -- the parts of links that aren't asked
@@ -35,7 +33,7 @@ quiet_all (l ∷ links) = quiet_all links
 quiet_hears : (links : List ShownLink) → HearsEach links (quiet links) links
 quiet_hears [] = (refl, refl)
 quiet_hears (l ∷ links) = (
-  record { hears = gains_nothing l.asked; later = omega arith; rose = omega arith },
+  record { hears = gains_nothing l.asked; later = omega arith; rose = omega arith; stays = λ _. refl },
   quiet_hears links,
 )
 

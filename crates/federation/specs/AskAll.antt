@@ -33,11 +33,12 @@ AreFirstQuestions hops qs [] = Unit {0}
 AreFirstQuestions hops [] (h ∷ heard) = ⊥
 AreFirstQuestions hops (q ∷ qs) (h ∷ heard) = IsQuestion hops q h × AreFirstQuestions hops qs heard
 
--- a link heard these, and its count of faults rose by each that failed
+-- a link heard these, and its count of faults rose by each that failed, and stays where none did
 pub record HearsPart (before : ShownLink) (part : List LinkHeard) (after : ShownLink) : Type 0 where
   pub hears : Gains before.asked part after.asked
   pub later : before.faults ≤ after.faults
   pub rose : summed before.faults (count_by link_failed part) ≤ after.faults
+  pub stays : count_by link_failed part ≡ 0 → after.faults ≡ before.faults
 
 -- each link heard its part
 abbrev pub HearsEach : List ShownLink → List (List LinkHeard) → List ShownLink → Type 0

@@ -1,6 +1,6 @@
 -- Links (this project's rule): what one shows, and what a question changes.
-use Rattle.std.specs.Prelude.{◌≡◌, ℕ, List, [], ◌∷◌, Option}
-use Rattle.row_types.specs.Faults.{HasCause}
+use Rattle.std.specs.Prelude.{◌≡◌, ◌≢◌, ℕ, ◌⊎◌, List, [], ◌∷◌, Option}
+use Rattle.row_types.specs.Faults.{HasCause, Rose}
 use Rattle.http_wire.specs.Told.{Gains}
 use Rattle.federation.specs.Heard.{LinkHeard, LinkSaid, failed, memory, said_by}
 use Rattle.federation.specs.declared.link.LinkAnswer.{LinkAnswer}
@@ -16,7 +16,20 @@ abbrev pub heard_by : Route → ℕ → LinkSaid → List LinkHeard
 heard_by route hops memory = []
 heard_by route hops said = record { route = route; hops = hops; said = said } ∷ []
 
--- a question was asked: it is told with its answer, and the link failed only where its count rose
+-- a question was asked: it is told with its answer, and the count rose exactly where the link failed
 pub record AsksOfLink (before : ShownLink) (route : Route) (hops : ℕ) (answer : LinkAnswer) (after : ShownLink) : Type 0 where
   pub hears : Gains before.asked (heard_by route hops (said_by answer)) after.asked
   pub cause : HasCause before.faults after.faults (said_by answer ≡ failed)
+  pub stays : said_by answer ≢ failed → after.faults ≡ before.faults
+
+-- the count of some of these links rose
+abbrev pub SomeLinkRose : List ShownLink → List ShownLink → Type 0
+SomeLinkRose [] news = ⊥
+SomeLinkRose (o ∷ olds) [] = ⊥
+SomeLinkRose (o ∷ olds) (n ∷ news) = Rose o.faults n.faults ⊎ SomeLinkRose olds news
+
+-- the counts of these links are as they were
+abbrev pub NoLinkRose : List ShownLink → List ShownLink → Type 0
+NoLinkRose [] news = news ≡ []
+NoLinkRose (o ∷ olds) [] = ⊥
+NoLinkRose (o ∷ olds) (n ∷ news) = (n.faults ≡ o.faults) × NoLinkRose olds news

@@ -1,5 +1,5 @@
 -- Which answers pass (this project's rule): those of status 200 whose body passes for the route.
-use Rattle.std.specs.Prelude.{◌≡◌, ℕ, ◌≤◌, List, [], ◌∷◌, ◌++◌, length, Option, Some, None, All}
+use Rattle.std.specs.Prelude.{◌≡◌, ◌≤◌, List, [], ◌∷◌, ◌++◌, length, Option, Some, None, All}
 use Rattle.answer_check.specs.Passing.{GivesPassed, Passes}
 use Rattle.answer_check.specs.declared.passed.Passed.{Passed}
 use Rattle.federation.specs.Heard.{LinkHeard, LinkSaid, failed, memory, reply}
@@ -8,10 +8,19 @@ use Rattle.row_types.specs.declared.identity.Kind.TheVariants as kind
 use Rattle.webapi_routes.specs.declared.route.Route.{Route}
 use Rattle.webapi_routes.specs.declared.route.Route.TheVariants.{Debuginfo, Executable, Metrics, Section, Source}
 
--- what a link is asked for a route, in order: for a section the files in which it may be
+-- the files in which the answer to a route may be, in order: for a section the file with debug information, then the executable
+abbrev pub files_of : Route → List Route
+files_of (Debuginfo id) = Debuginfo id ∷ []
+files_of (Executable id) = Executable id ∷ []
+files_of (Section id name) = Debuginfo id ∷ Executable id ∷ []
+files_of (Source id path) = []
+files_of Metrics = []
+
+-- what a link is asked for a route, in order: the files in which its answer may be, or else the route itself
 abbrev pub questions_of : Route → List Route
-questions_of (Section id name) = Debuginfo id ∷ Executable id ∷ []
-questions_of route = route ∷ []
+questions_of (Source id path) = Source id path ∷ []
+questions_of Metrics = Metrics ∷ []
+questions_of route = files_of route
 
 -- the class of the file that a question asks for, where it asks for one
 abbrev pub class_asked : Route → Option Kind

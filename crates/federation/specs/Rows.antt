@@ -43,11 +43,12 @@ JudgedOne before route question hops after ended.Failed =
     HearsOne before question hops after (λ h. FailsToPass route h × (link_failed h ≡ true))
 JudgedOne before route question hops after ended.OutOfMemory = HearsAtMost before question hops after
 
--- what came of one question; the link failed only where its count rose
+-- what came of one question; the link's count rose exactly where it failed
 pub record JudgesOne (before : ShownLink) (route question : Route) (hops : ℕ) (after : ShownLink) (what : QuestionEnd) : Type 0 where
   pub judged : JudgedOne before route question hops after what
   pub later : before.faults ≤ after.faults
   pub rose : what ≡ ended.Failed → Rose before.faults after.faults
+  pub stays : what ≢ ended.Failed → after.faults ≡ before.faults
 
 -- the end of a link by its last question, behind so many refused and failed ones
 abbrev pub link_end : QuestionEnd → ℕ → ℕ → LinkEnd

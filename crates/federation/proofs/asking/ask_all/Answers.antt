@@ -1,4 +1,4 @@
-use Rattle.std.proofs.Common.{◌≡◌, inl, map, sym, subst}
+use Rattle.std.proofs.Common.{inl, map, sym, subst}
 use Rattle.federation.specs.AskAll.{AsksLinks}
 use Rattle.federation.proofs.RowLemmas.{all_asked, hop_limit_of, no_links}
 use Rattle.federation.proofs.asking.ask_all.Goals as goal

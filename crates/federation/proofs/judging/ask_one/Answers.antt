@@ -1,5 +1,4 @@
-use Rattle.std.proofs.Common.{◌≡◌, refl}
-use Rattle.federation.proofs.JudgeLemmas.{judges_body, judges_failed, judges_memory, judges_status}
+use Rattle.federation.proofs.JudgeLemmas.{judges_failed, judges_memory}
 use Rattle.federation.proofs.judging.ask_one.Goals as goal
 
 pub returns-in-Failed : goal.returns-in-Failed

@@ -1,4 +1,4 @@
-use Rattle.std.proofs.Common.{◌≡◌, ◌∷◌, map, sym, subst}
+use Rattle.std.proofs.Common.{◌∷◌, map, sym, subst}
 use Rattle.federation.specs.Rows.{AsksRow, with_more}
 use Rattle.federation.specs.declared.link_row.RowEnd.TheVariants.{OutOfMemory, Passed}
 use Rattle.federation.proofs.RowLemmas.{row_memory, row_more, row_passed}

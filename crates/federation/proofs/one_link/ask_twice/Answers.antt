@@ -1,4 +1,4 @@
-use Rattle.std.proofs.Common.{◌≡◌, sym, subst}
+use Rattle.std.proofs.Common.{sym, subst}
 use Rattle.federation.specs.Rows.{AsksOneLink}
 use Rattle.federation.proofs.LinkLemmas.{one_memory, one_passed, two_failed, two_refused}
 use Rattle.federation.proofs.one_link.ask_twice.Goals as goal

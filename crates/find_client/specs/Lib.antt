@@ -1,0 +1,5 @@
+pub mod Cache
+pub mod Carried
+pub mod Find
+pub mod Looks
+pub mod MemCache
