@@ -118,14 +118,7 @@ fn said(rt: &impl Abort, alloc: Global, line: &Line<'_>) -> String {
             workers,
             patterns,
             roots,
-        } => Ok(said_of_scan(
-            rt,
-            alloc,
-            store,
-            *workers,
-            *patterns,
-            roots.as_slice(),
-        )),
+        } => Ok(said_of_scan(rt, alloc, store, *workers, *patterns, roots.as_slice())),
         Line::Serve {
             store,
             workers,
