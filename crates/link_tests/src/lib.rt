@@ -14,4 +14,6 @@ mod patterns;
 #[cfg(test)]
 mod responses;
 #[cfg(test)]
+mod searches;
+#[cfg(test)]
 mod words;
