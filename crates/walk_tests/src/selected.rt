@@ -4,14 +4,13 @@ ghost use Rattle.std.specs.Prelude.{IsTrue};
 ghost use Rattle.std.specs.String.{string_bytes};
 ghost use Rattle.row_types.specs.Canon.{is_canonical};
 
-mod chosen;
 mod noted;
 
-use crate::selected::chosen::Chosen;
 use crate::selected::noted::Noted;
 use crate::walks::{file_at, paths_of, tree_at, tree_of, walk_text};
 use path_scope::{AllPaths, Selection};
 use row_types::{OpenWorld, is_canonical};
+use sample_rows::Chosen;
 use std::alloc::Global;
 use std::process::Abort;
 use tree_trait::MemTree;
@@ -227,11 +226,7 @@ fn walked<S: Selection>(
 
 /// Makes the walk of a case, and compares.
 fn run_case(rt: &impl Abort, alloc: Global, case: &Case) {
-    let mut select = Chosen {
-        paths: case.chosen,
-        asked: 0,
-        wants: case.wants,
-    };
+    let mut select = Chosen::new(case.chosen, case.wants);
     let tree = tree(rt, alloc, case.files);
     let (found, asked) = walked(rt, alloc, tree, case.roots, &mut select);
     assert!(rt; found.as_str() == case.found, "{}: {found}", case.shows);
@@ -292,11 +287,7 @@ fn takes_long(rt: &impl Abort, alloc: Global, len: usize, wanted: (&str, usize))
 /// Makes the walk where no path is selected, and compares. The last number is that of the questions
 /// that the selection is asked.
 fn leaves_long(rt: &impl Abort, alloc: Global, len: usize, wanted: (&str, usize, u64)) {
-    let mut select = Chosen {
-        paths: &[],
-        asked: 0,
-        wants: NONE,
-    };
+    let mut select = Chosen::new(&[], NONE);
     let (found, asked) = long_walk(rt, alloc, len, &mut select);
     assert!(rt;
         (found.as_str(), asked, select.asked) == wanted,

@@ -1,16 +1,13 @@
 //! Marks: which names of rows that aren't listed are in the scope of a pass, and what becomes of
 //! them.
 
-mod chosen;
-
 use crate::states::helpers::{NO_PLAN, NOTHING, ended, listing};
-use crate::states::marks::chosen::Chosen;
 use index_keeper::MemStore;
 use index_state::{Begun, GroomTask, Judged, Plan, Published, Standing};
 use path_scope::AllPaths;
 use row_types::OpenWorld;
 use sample_index::{Index, empty_store, opened};
-use sample_rows::{name, name_text, paths, plain};
+use sample_rows::{Chosen, name, name_text, paths, plain};
 use scan_queue::Seen;
 use std::alloc::Global;
 use std::process::Abort;
@@ -35,15 +32,6 @@ static CHOSEN: [&str; 5] = [
     "/srv/moved",
     "/srv/new",
 ];
-
-/// A selection of these paths, whose question of a number wants memory.
-fn choosing(paths: &'static [&'static str], wants: u64) -> Chosen {
-    Chosen {
-        paths,
-        asked: 0,
-        wants,
-    }
-}
 
 /// The index with the rows of the files.
 fn with_rows(rt: &impl Abort, alloc: Global, store: &mut MemStore<OpenWorld>) -> Index<OpenWorld> {
@@ -73,7 +61,7 @@ fn begin_over(
 
 /// Begins the pass, which asks for those three that aren't listed and lie under the root.
 fn begin_chosen(rt: &impl Abort, alloc: Global, index: &mut Index<OpenWorld>) {
-    let mut select = choosing(&CHOSEN, 99);
+    let mut select = Chosen::new(&CHOSEN, 99);
     let plan = Plan {
         files: 2,
         replace: 1,
@@ -221,7 +209,7 @@ fn a_row_whose_file_is_there_stays_where_it_is_marked(rt: HostRuntime) {
 
 /// Begins the pass where no path is selected.
 fn begin_unselected(rt: &impl Abort, alloc: Global, index: &mut Index<OpenWorld>) {
-    let mut select = choosing(&[], 99);
+    let mut select = Chosen::new(&[], 99);
     let _begun = begin_over(rt, alloc, index, &LISTED, &mut select);
 }
 
@@ -268,7 +256,7 @@ fn a_listed_name_is_kept_though_it_is_not_selected(rt: HostRuntime) {
 /// how many questions there were, and that the index stands as it stood.
 fn begin_without_memory(rt: &impl Abort, alloc: Global, index: &mut Index<OpenWorld>, wants: u64) {
     let stood = index.standing();
-    let mut select = choosing(&CHOSEN, wants);
+    let mut select = Chosen::new(&CHOSEN, wants);
     let begun = begin_over(rt, alloc, index, &[], &mut select);
     assert!(rt; begun == Begun::OutOfMemory, "{wants}: {begun:?}");
     assert!(rt; select.asked == wants.saturating_add(1));

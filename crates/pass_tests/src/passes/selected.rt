@@ -4,10 +4,10 @@ use crate::passes::beside::many;
 use crate::passes::passes::{Holds, Pass, run_hands, run_one};
 use crate::passes::shared::share_one;
 use crate::passes::whole::{BIN, DEBUG, SOURCES, TOOLS};
-use crate::rig::{Chosen, FOLDERS, Files, ROWS};
+use crate::rig::{FOLDERS, Files, ROWS};
 use path_scope::AllPaths;
 use sample_index::{Index, empty_index, empty_shared};
-use sample_rows::rows_text;
+use sample_rows::{Chosen, rows_text};
 use sample_world::SampleWorld;
 use std::alloc::Global;
 use std::process::Abort;
@@ -148,14 +148,10 @@ static STEPS: [Step; 5] = [
 
 /// The selection, whose question of a number wants memory.
 fn choosing(takes: Takes, wants: u64) -> Chosen {
-    Chosen {
-        paths: match takes {
-            Takes::All => &ALL,
-            Takes::Eight => &EIGHT,
-            Takes::Nothing => &[],
-        },
-        asked: 0,
-        wants,
+    match takes {
+        Takes::All => Chosen::new(&ALL, wants),
+        Takes::Eight => Chosen::new(&EIGHT, wants),
+        Takes::Nothing => Chosen::new(&[], wants),
     }
 }
 

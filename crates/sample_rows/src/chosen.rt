@@ -1,8 +1,7 @@
 //! A selection of listed paths.
 
 ghost use Rattle.std.specs.Prelude.{◌≡◌};
-ghost use Rattle.std.specs.List.{list_any};
-ghost use Rattle.std.specs.Str.{bytes_eq};
+ghost use Rattle.sample_rows.specs.Chosen.{is_listed};
 
 use path_scope::Selection;
 use row_types::CanonPath;
@@ -19,8 +18,21 @@ pub struct Chosen {
     pub wants: u64,
 }
 
+impl Chosen {
+    /// The selection of these paths, before any question, whose question of this number wants memory.
+    pub fn new(paths: &'static [&'static str], wants: u64) -> Chosen
+        ensures { result ≡ record { paths = paths.entry; asked = 0; wants = wants } }
+    {
+        Chosen {
+            paths,
+            asked: 0,
+            wants,
+        }
+    }
+}
+
 impl Selection for Chosen {
-    ghost takes = { λ chosen path. list_any (λ text. bytes_eq text.now path) chosen.paths.now };
+    ghost takes = { λ chosen path. is_listed chosen.paths.now path };
 
     fn selects(&mut self, _alloc: Global, path: &CanonPath) -> Result<bool, AllocError> {
         let call = self.asked;
@@ -33,8 +45,9 @@ impl Selection for Chosen {
 }
 
 /// Whether a text is one of these.
+#[tactic(auto, unfolding(crate::specs::Chosen::is_listed))]
 fn is_among(texts: &[&str], text: &str) -> bool
-    ensures { result ≡ list_any (λ other. bytes_eq other.now text.now) texts.now }
+    ensures { result ≡ is_listed texts.now text.now }
 {
     texts.iter().any(|other| *other == text)
 }
