@@ -2,6 +2,7 @@ pub mod Accepts
 pub mod Answered
 pub mod Dials
 pub mod Errors
+pub mod FolderCaches
 pub mod FolderRead
 pub mod Fronts
 pub mod Halls

@@ -1,6 +1,6 @@
-//! The real outside: the files of this machine as a tree, the standard streams as sinks, a listening
-//! socket and the connections that no worker holds as doors, dialled sockets, and the time of the system.
-//! Each call is one of std, or of epoll, whose errors are counted.
+//! The real outside: the files of this machine as a tree, a folder of them as a cache, the standard streams
+//! as sinks, a listening socket and the connections that no worker holds as doors, dialled sockets, and the
+//! time of the system. Each call is one of std, or of epoll, whose errors are counted.
 #![tactic(auto)]
 
 mod accept_fault;
@@ -8,12 +8,16 @@ mod ahead;
 mod dial_fault;
 mod dialled_conn;
 mod doors;
+mod entry_read;
+mod entry_write;
 mod file_load;
 mod file_open;
+mod folder_cache;
 mod folder_read;
 mod front;
 mod hall;
 mod hands;
+mod keep_fault;
 mod lead;
 mod lobby;
 mod lobby_conn;
@@ -37,6 +41,7 @@ mod wire;
 pub use dialled_conn::DialledConn;
 pub use doors::{every_ipv4, every_ipv6, listen, lobby_doors, real_doors};
 pub use file_open::RealFile;
+pub use folder_cache::FolderCache;
 pub use hands::real_hands;
 pub use lobby_conn::LobbyConn;
 pub use lobby_door::LobbyDoor;

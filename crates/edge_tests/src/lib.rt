@@ -10,6 +10,12 @@ mod asking;
 #[cfg(test)]
 mod begun;
 #[cfg(test)]
+mod caches;
+#[cfg(test)]
+mod caches_refused;
+#[cfg(test)]
+mod caching;
+#[cfg(test)]
 mod changes;
 #[cfg(test)]
 mod clocks;

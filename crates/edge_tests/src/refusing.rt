@@ -12,6 +12,8 @@ pub enum Call {
     Open,
     Enter,
     List,
+    /// A file takes the place at these paths.
+    Move,
 }
 
 impl Call {
@@ -22,6 +24,7 @@ impl Call {
             Call::Open => "opening",
             Call::Enter => "entering",
             Call::List => "listing",
+            Call::Move => "moving",
         }
     }
 }
@@ -164,6 +167,7 @@ impl Files for Refusing {
     }
 
     fn rename(&self, from: &str, to: &str) -> Result<()> {
+        self.judge(Call::Move, to)?;
         self.rt.rename(from, to)
     }
 
@@ -173,6 +177,10 @@ impl Files for Refusing {
 
     fn create_dir(&self, path: &str) -> Result<()> {
         self.rt.create_dir(path)
+    }
+
+    fn create_dir_with_mode(&self, path: &str, mode: u32) -> Result<()> {
+        self.rt.create_dir_with_mode(path, mode)
     }
 
     fn remove_dir(&self, path: &str) -> Result<()> {
