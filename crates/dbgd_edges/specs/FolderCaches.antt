@@ -1,11 +1,12 @@
 -- A folder as a cache (this project's rule; the errors are those of POSIX, XBD 2.3, by std's names).
-use Rattle.std.specs.Prelude.{ℕ, List, [], ◌∷◌, ◌++◌, codes, decimal, Option, None, Some, Result, Ok, Err, if◌then◌else◌}
+use Rattle.std.specs.Prelude.{ℕ, ◌≤◌, length, List, [], ◌∷◌, ◌++◌, codes, decimal, Option, None, Some, Result, Ok, Err, if◌then◌else◌}
 use Rattle.std.specs.IoError.{error_kind}
 use Rattle.std.specs.declared.io.Error.{Error}
 use Rattle.std.specs.declared.io.ErrorKind.{ErrorKind}
 use Rattle.std.specs.declared.io.ErrorKind.TheVariants as kind
 use Rattle.std.specs.declared.fs.attrs.Metadata.{Metadata}
-use Rattle.find_client.specs.Cache.{ShownCache}
+use Rattle.find_client.specs.Cache.{CacheSaid, ShownCache, held}
+use Rattle.find_client.specs.declared.cache.TheConstants.{VALUE_LIMIT}
 use Rattle.tree_trait.specs.Entry.{is_entry_name}
 use Rattle.dbgd_edges.specs.Errors.{read_fault}
 use Rattle.dbgd_edges.specs.declared.keep_fault.KeepFault.{KeepFault}
@@ -16,6 +17,11 @@ use Rattle.dbgd_edges.specs.declared.read_fault.ReadFault.TheVariants as fault
 -- what a folder shows: its count of faults alone
 abbrev pub shown_folder : ℕ → ShownCache
 shown_folder faults = record { content = None; asked = None; faults = faults }
+
+-- what is given isn't larger than a value may be
+abbrev pub IsWithinLimit : CacheSaid → Type 0
+IsWithinLimit (held bytes) = length bytes ≤ VALUE_LIMIT
+IsWithinLimit any_other = Unit {0}
 
 -- the path of an entry, which stands in the folder itself; None: the folder has no name, or it is no entry's name
 abbrev pub entry_path : List ℕ → List ℕ → Option (List ℕ)

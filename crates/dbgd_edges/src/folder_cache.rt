@@ -1,6 +1,9 @@
 //! A folder of files as a cache.
 
-ghost use Rattle.std.specs.Prelude.{◌≡◌};
+ghost use Rattle.std.specs.Prelude.{◌≡◌, None};
+ghost use Rattle.std.specs.String.{string_bytes};
+ghost use Rattle.find_client.specs.Cache.{AsksOfCache, PutsInCache, failed, said_by};
+ghost use Rattle.dbgd_edges.specs.FolderCaches.{IsWithinLimit, entry_path, shown_folder};
 
 use crate::entry_read::read_entry;
 use crate::entry_write::write_entry;
@@ -48,11 +51,14 @@ impl<R: Drop> FolderCache<R> {
 }
 
 impl<R: Files + Drop> Cache for FolderCache<R> {
-    ghost use Rattle.dbgd_edges.specs.FolderCaches.{shown_folder};
-
     ghost shows = { λ c. shown_folder c.faults };
 
-    fn get(&mut self, alloc: Global, name: &str) -> CacheAnswer {
+    fn get(&mut self, alloc: Global, name: &str) -> CacheAnswer
+        ensures asks { AsksOfCache (shown_folder self.old.faults) name.now result (shown_folder self.new.faults) }
+        ensures limit { IsWithinLimit (said_by result) }
+        ensures placeless { entry_path (string_bytes self.old.folder) name.now ≡ None → said_by result ≡ failed }
+        ensures same { (self.new.folder ≡ self.old.folder) × (self.new.process ≡ self.old.process) }
+    {
         match read_entry(&self.files, alloc, self.folder.as_str(), name) {
             Ok(Some(bytes)) => CacheAnswer::Held(bytes),
             Ok(None) => CacheAnswer::Absent,
@@ -64,7 +70,12 @@ impl<R: Files + Drop> Cache for FolderCache<R> {
         }
     }
 
-    fn put(&mut self, alloc: Global, name: &str, bytes: &[u8]) -> CachePut {
+    fn put(&mut self, alloc: Global, name: &str, bytes: &[u8]) -> CachePut
+        ensures puts { PutsInCache (shown_folder self.old.faults) name.now bytes.now result
+            (shown_folder self.new.faults) }
+        ensures placeless { entry_path (string_bytes self.old.folder) name.now ≡ None → result ≡ CachePut.Failed }
+        ensures same { (self.new.folder ≡ self.old.folder) × (self.new.process ≡ self.old.process) }
+    {
         let folder = self.folder.as_str();
         match write_entry(&self.files, alloc, folder, name, self.process, bytes) {
             Ok(()) => CachePut::Done,
