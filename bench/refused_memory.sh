@@ -1,8 +1,9 @@
 #!/usr/bin/env bash
 # Refuses one piece of memory a run, the first that the program asks for, the second, and so on, up to a run that asks for fewer:
-# of ident and sources of a file with debug information, of a first scan, of a query, and of one connection of a server. A command
-# is to say that it is out of memory, with status 6, or what it says else; a connection is to get 507, nothing, or the reply that it
-# gets else; and the next scan of the same store is to find each file. It stands outside the gate, since it takes minutes.
+# of ident and sources of a file with debug information, of a first scan, of a query, of a search that finds its file, and of one
+# connection of a server. A command is to say that it is out of memory, with status 6, or what it says else; a connection is to get 507,
+# nothing, or the reply that it gets else; and the next scan of the same store is to find each file. It stands outside the gate, since
+# it takes minutes.
 #
 # What refuses is a library of C that is compiled here and loaded before the program's own: its malloc and realloc are those of the
 # system, but for the call of one number, counted from the beginning of main or, for a connection, from when the server has said
@@ -178,6 +179,9 @@ each 'scan -c 1' - scan -c 1 -d "$work/run.db" "$work/tree"
 "$program" scan -d "$work/scanned.db" "$work/tree" >/dev/null || differs 'no scan'
 printf 'both %s\n' "$work/tree/prog" >"$work/usual"
 each query "$work/scanned.db" query -d "$work/run.db" "$id"
+mkdir "$work/cache" && cp "$work/tree/prog" "$work/cache/$id-executable"
+cp "$work/tree/prog" "$work/usual"
+each 'find, of a hit' - find --cache "$work/cache" --upstream http://127.0.0.1:1 executable "$id"
 
 # One connection of a server, one number a run.
 number=0 wants=0 ends=0 usual=0

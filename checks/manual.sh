@@ -32,7 +32,7 @@ fi
 # The options and defaults of the helps.
 man_text=$(sed 's/^\.[A-Z][a-z] Fl Fl /--/; s/ , Fl Fl / --/; s/Fl Fl /--/g; s/Fl /-/g' "$page")
 options=0
-for command in query scan serve; do
+for command in query scan serve find; do
   "$program" "$command" --help >"$work/help" || differs "$command has no help"
   for option in $(grep -o -E '^ +(-[a-zA-Z], )?--[a-z-]+' "$work/help" | grep -o -E -- '--?[a-zA-Z-]+'); do
     options=$((options + 1))

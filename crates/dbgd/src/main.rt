@@ -7,11 +7,14 @@ ghost use Rattle.std.specs.Prelude.{◌≡◌, ◌<◌, ◌≤◌, All, length, 
 ghost use Rattle.std.specs.String.{string_bytes};
 ghost use Rattle.dbgd_words.specs.Words.{line_of};
 ghost use Rattle.dbgd.specs.Servers.{server_of};
-ghost use Rattle.dbgd_run.specs.Needs.{HasEnough, doors_of, hands_of, servers_of};
+ghost use Rattle.dbgd_run.specs.Needs.{HasEnough, doors_of, hands_of, rows_of, servers_of};
 
-use dbgd_edges::{LobbyDoor, RealClock, RealDial, RealSink, StdStream, real_doors, real_hands};
+use dbgd_edges::{
+    FolderCache, LobbyDoor, RealClock, RealDial, RealSink, StdStream, real_doors, real_hands,
+};
 use dbgd_run::{Needs, Outside, Status, needs, run, write_all};
 use federation::{HttpLink, Link, UpstreamAt};
+use find_client::Cache;
 use http_wire::Door;
 use row_types::OpenWorld;
 use sqlite_keeper::SqliteStore;
@@ -19,7 +22,7 @@ use std::alloc::{AllocError, Global};
 use std::io::ErrorKind;
 use std::marker::PhantomData;
 use std::net::Net;
-use std::process::ExitCode;
+use std::process::{self, ExitCode};
 use std::sync::Wait;
 use std::thread::Threads;
 use std::{env, time};
@@ -105,9 +108,25 @@ fn rows<R: Net + time::Clock + Copy>(
     Ok(rows)
 }
 
-/// Runs the program over these hands, doors, links and clock, and over the store in a file and the
+/// The name of the folder of the cache that is needed; none where none is needed, and nothing is asked of
+/// it then.
+fn folder(alloc: Global, needs: &Needs) -> Result<String, AllocError> {
+    match &needs.cache {
+        Some(folder) => String::from_str(alloc, folder.as_str()),
+        None => Ok(String::new(alloc)),
+    }
+}
+
+/// Runs the program over these hands, doors, links, clock and cache, and over the store in a file and the
 /// standard streams, and gives its exit status.
-fn run_over<T: Tree<OpenWorld>, D: Door, L: Link, C: Clock + Drop, Rt: Threads + Wait + Sync>(
+fn run_over<
+    T: Tree<OpenWorld>,
+    D: Door,
+    L: Link,
+    C: Clock + Drop,
+    H: Cache + Drop,
+    Rt: Threads + Wait + Sync,
+>(
     rt: &HostRuntime,
     threads: &Rt,
     words: &[String],
@@ -115,6 +134,7 @@ fn run_over<T: Tree<OpenWorld>, D: Door, L: Link, C: Clock + Drop, Rt: Threads +
     doors: Vec<D>,
     links: Vec<Vec<L>>,
     clock: C,
+    cache: H,
 ) -> u8
     requires hand { 0 < vec_len hands }
     requires enough { HasEnough (line_of (map string_bytes words.now)) (vec_len hands)
@@ -129,49 +149,54 @@ fn run_over<T: Tree<OpenWorld>, D: Door, L: Link, C: Clock + Drop, Rt: Threads +
         out: RealSink::new(StdStream::Out(rt.stdout())),
         err: RealSink::new(StdStream::Err(rt.stderr())),
         gate: NoGate,
+        cache,
         of: PhantomData::<OpenWorld>,
     };
     run(threads, rt.alloc(), words, &mut outside)
 }
 
-/// Opens the doors, and runs the program over them and these hands and links.
-fn run_linked<T: Tree<OpenWorld>, L: Link, Rt: Threads + Wait + Sync>(
+/// Opens the doors, and runs the program over them and these hands, links and cache.
+fn run_linked<T: Tree<OpenWorld>, L: Link, H: Cache + Drop, Rt: Threads + Wait + Sync>(
     rt: &HostRuntime,
     threads: &Rt,
     words: &[String],
     needs: &Needs,
     hands: Vec<T>,
     links: Vec<Vec<L>>,
+    cache: H,
 ) -> Result<u8, Early>
     requires hand { 0 < vec_len hands }
     requires hands { hands_of (line_of (map string_bytes words.now)) ≤ vec_len hands }
     requires doors { needs.now.doors ≡ doors_of (line_of (map string_bytes words.now)) }
-    requires rows { doors_of (line_of (map string_bytes words.now)) ≤ vec_len links }
+    requires rows { rows_of (line_of (map string_bytes words.now)) ≤ vec_len links }
     requires linked { All (λ row. length row.items
         ≡ length (servers_of (line_of (map string_bytes words.now)))) links.items }
 {
     let doors = doors(rt, needs)?;
-    Ok(run_over(rt, threads, words, hands, doors, links, RealClock::new(*rt)))
+    let clock = RealClock::new(*rt);
+    Ok(run_over(rt, threads, words, hands, doors, links, clock, cache))
 }
 
-/// Makes the links, and runs the program over them and these hands.
-fn run_handed<T: Tree<OpenWorld>, Rt: Threads + Wait + Sync>(
+/// Makes the links, and runs the program over them and these hands and cache.
+fn run_handed<T: Tree<OpenWorld>, H: Cache + Drop, Rt: Threads + Wait + Sync>(
     rt: &HostRuntime,
     threads: &Rt,
     words: &[String],
     needs: &Needs,
     hands: Vec<T>,
+    cache: H,
 ) -> Result<u8, Early>
     requires hand { 0 < vec_len hands }
     requires hands { hands_of (line_of (map string_bytes words.now)) ≤ vec_len hands }
     requires doors { needs.now.doors ≡ doors_of (line_of (map string_bytes words.now)) }
+    requires rows { needs.now.rows ≡ rows_of (line_of (map string_bytes words.now)) }
     requires upstream { needs.now.upstream.items ≡ servers_of (line_of (map string_bytes words.now)) }
 {
-    let links = rows(rt.alloc(), *rt, needs.upstream.as_slice(), needs.doors)?;
-    run_linked(rt, threads, words, needs, hands, links)
+    let links = rows(rt.alloc(), *rt, needs.upstream.as_slice(), needs.rows)?;
+    run_linked(rt, threads, words, needs, hands, links, cache)
 }
 
-/// Makes the hands, and runs the program by its words.
+/// Makes the hands and the cache, and runs the program by its words.
 fn run_words<Rt: Threads + Wait + Sync>(
     rt: &HostRuntime,
     threads: &Rt,
@@ -179,7 +204,9 @@ fn run_words<Rt: Threads + Wait + Sync>(
 ) -> Result<u8, Early> {
     let needs = needs(rt.alloc(), words)?;
     let hands = real_hands(rt, needs.hands)?;
-    run_handed(rt, threads, words, &needs, hands)
+    let folder = folder(rt.alloc(), &needs)?;
+    let cache = FolderCache::new(*rt, folder, process::id(rt.process()));
+    run_handed(rt, threads, words, &needs, hands, cache)
 }
 
 /// Runs the program over the real objects, and gives its exit status. Threads are made by the

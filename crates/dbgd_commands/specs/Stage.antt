@@ -1,5 +1,6 @@
 -- What contracts know of the outside (this project's rule): what the types of its objects tell (`Setting`), and what the objects show
--- at a moment: to every command (`CommandStage`), and to a server (`ProgramStage`), which has doors, rows of links and a clock too.
+-- at a moment: to every command (`CommandStage`), and to a server or a search (`ProgramStage`), which have doors, rows of links, a clock and
+-- a cache too.
 use Rattle.std.specs.Prelude.{◌≡◌, ◌∷◌, Bool, List, Option, map}
 use Rattle.std.specs.Global.{Vec}
 use Rattle.row_types.specs.Faults.{Rose}
@@ -8,6 +9,7 @@ use Rattle.tree_trait.specs.Shown.{ShownTree}
 use Rattle.index_keeper.specs.Store.{ShownStore}
 use Rattle.federation.specs.Link.{ShownLink}
 use Rattle.http_wire.specs.Door.{ShownDoor}
+use Rattle.find_client.specs.Cache.{ShownCache}
 use Rattle.tree_trait.specs.declared.clock.Waited.{Waited}
 use Rattle.pass_runner.specs.Owned.{HandsGo}
 use Rattle.dbgd_commands.specs.Endings.{Streams}
@@ -48,24 +50,27 @@ OfFirst s Holds _ _ = ⊥
 abbrev pub FirstRose : {T : Type 0} → Setting T → List T → List T → Type 0
 FirstRose s hands later = OfFirst s (λ before after. Rose before.faults after.faults) hands later
 
--- what all commands have, what the doors show, in order, and what the links of each row do, and the waits of the clock so far,
--- where they are told
+-- what all commands have, what the doors show, in order, and what the links of each row do, the waits of the clock so far,
+-- where they are told, and what the cache shows
 pub record ProgramStage (T : Type 0) : Type 0 where
   pub command : CommandStage T
   pub doors : List ShownDoor
   pub links : List (List ShownLink)
   pub woke : Option (List Waited)
+  pub cache : ShownCache
 
 -- the stage of these
-abbrev pub stage : {T : Type 0} → CommandStage T → List ShownDoor → List (List ShownLink) → Option (List Waited) → ProgramStage T
-stage command doors links woke = record { command = command; doors = doors; links = links; woke = woke }
+abbrev pub stage : {T : Type 0} → CommandStage T → List ShownDoor → List (List ShownLink) → Option (List Waited) → ShownCache
+    → ProgramStage T
+stage command doors links woke cache = record { command = command; doors = doors; links = links; woke = woke; cache = cache }
 
 -- what the links of rows show, row by row
 abbrev pub rows_shown : {L : Type 0} → (L → ShownLink) → List (Vec L) → List (List ShownLink)
 rows_shown views rows = map (λ row. map views row.items) rows
 
--- no door, no link and no wait was asked for
+-- no door, no link, no wait and no file of the cache was asked for
 pub record LeavesRest {T : Type 0} (before after : ProgramStage T) : Type 0 where
   pub doors : after.doors ≡ before.doors
   pub links : after.links ≡ before.links
   pub woke : after.woke ≡ before.woke
+  pub cache : after.cache ≡ before.cache

@@ -8,14 +8,16 @@ ghost use Rattle.dbgd_commands.specs.Stage.{ProgramStage, Setting, command_stage
 use crate::kinds::Kinds;
 use elf_reading::ElfTruth;
 use federation::Link;
+use find_client::Cache;
 use http_wire::{Door, Sink};
 use index_keeper::Store;
 use std::marker::PhantomData;
 use tree_trait::{Clock, Gate, Tree};
 
 /// What the program is handed: the hands that read files, of which the first serves single files,
-/// the store of the index, the doors of a server, a row of links to other servers for each door, the
-/// clock between its passes, the two sinks, and the gate that its threads pass.
+/// the store of the index, the doors of a server, a row of links to other servers for each door, or one
+/// for a search, the clock between a server's passes, the two sinks, the gate that its threads pass, and
+/// the cache of a search.
 #[derive(Drop)]
 pub struct Outside<
     W: ElfTruth + Send + Sync,
@@ -26,6 +28,7 @@ pub struct Outside<
     C: Clock + Drop,
     O: Sink,
     G: Gate + Drop,
+    H: Cache + Drop,
 > {
     pub hands: Vec<T>,
     pub store: S,
@@ -35,6 +38,7 @@ pub struct Outside<
     pub out: O,
     pub err: O,
     pub gate: G,
+    pub cache: H,
     pub of: PhantomData<W>,
 }
 
@@ -48,6 +52,7 @@ pub type Handed<X> = Outside<
     <X as Kinds>::C,
     <X as Kinds>::O,
     <X as Kinds>::G,
+    <X as Kinds>::H,
 >;
 
 /// What contracts know of what is handed.
@@ -70,12 +75,14 @@ impl<
     C: Clock + Drop,
     O: Sink,
     G: Gate + Drop,
-> Staged for Outside<W, T, S, D, L, C, O, G> {
+    H: Cache + Drop,
+> Staged for Outside<W, T, S, D, L, C, O, G, H> {
     type Hand = T;
 
     ghost setting = { setting (rules W.version W.true_row W.told) T.told T.shows S.K.told };
 
     ghost stage = { λ o. stage
         (command_stage o.hands.items (S.shows o.store) (streams O.shows o.out o.err))
-        (map D.shows o.doors.items) (rows_shown L.shows o.links.items) (C.woke o.clock) };
+        (map D.shows o.doors.items) (rows_shown L.shows o.links.items) (C.woke o.clock)
+        (H.shows o.cache) };
 }

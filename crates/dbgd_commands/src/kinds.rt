@@ -2,6 +2,7 @@
 
 use elf_reading::ElfTruth;
 use federation::Link;
+use find_client::Cache;
 use http_wire::{Door, Sink};
 use index_keeper::Store;
 use std::marker::PhantomData;
@@ -25,11 +26,13 @@ pub trait Kinds {
     type O: Sink;
     /// The gate that threads pass.
     type G: Gate + Drop;
+    /// The cache of what other servers sent.
+    type H: Cache + Drop;
 }
 
 /// The kinds of these.
 #[derive(Clone, Copy)]
-pub struct Of<W, T, S, D, L, C, O, G>(PhantomData<(W, T, S, D, L, C, O, G)>);
+pub struct Of<W, T, S, D, L, C, O, G, H>(PhantomData<(W, T, S, D, L, C, O, G, H)>);
 
 impl<
     W: ElfTruth + Send + Sync,
@@ -40,7 +43,8 @@ impl<
     C: Clock + Drop,
     O: Sink,
     G: Gate + Drop,
-> Kinds for Of<W, T, S, D, L, C, O, G> {
+    H: Cache + Drop,
+> Kinds for Of<W, T, S, D, L, C, O, G, H> {
     type W = W;
 
     type T = T;
@@ -56,4 +60,6 @@ impl<
     type O = O;
 
     type G = G;
+
+    type H = H;
 }

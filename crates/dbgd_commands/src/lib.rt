@@ -33,6 +33,6 @@ pub use scan_sayings::{say_end, say_pass, say_refusal};
 pub use scan_texts::push_count;
 pub use section::run_section;
 pub use sources::run_sources;
-pub use speech::{say, say_error, say_no_memory, write_line};
+pub use speech::{say, say_error, say_no_memory, tell, write_line};
 pub use status::Status;
 pub use trial::run_trial;

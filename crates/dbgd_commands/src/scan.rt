@@ -191,7 +191,7 @@ fn scan_by<X: Kinds, P: Selection, Rt: Threads + Wait + Sync>(
     ensures same { P.takes select.new ≡ P.takes select.old }
     ensures sinks { (outside.new.out ≡ outside.old.out) × (outside.new.err ≡ outside.old.err) }
     ensures rest { (outside.new.doors ≡ outside.old.doors) × (outside.new.links ≡ outside.old.links)
-        × (outside.new.clock ≡ outside.old.clock) }
+        × (outside.new.clock ≡ outside.old.clock) × (outside.new.cache ≡ outside.old.cache) }
 {
     let hands = &mut outside.hands;
     let count = asked(workers, hands.len());
@@ -234,7 +234,7 @@ pub fn run_scan<X: Kinds, P: Selection, Rt: Threads + Wait + Sync>(
     ensures count { vec_len outside.new.hands ≡ vec_len outside.old.hands }
     ensures same { P.takes select.new ≡ P.takes select.old }
     ensures rest { (outside.new.doors ≡ outside.old.doors) × (outside.new.links ≡ outside.old.links)
-        × (outside.new.clock ≡ outside.old.clock) }
+        × (outside.new.clock ≡ outside.old.clock) × (outside.new.cache ≡ outside.old.cache) }
 {
     let end = scan_by::<X, P, Rt>(rt, alloc, path, workers, roots, select, outside);
     say_end(alloc, &end, &mut outside.out, &mut outside.err)

@@ -162,7 +162,7 @@ pub fn run_trial<X: Kinds, Rt: Threads + Wait + Sync>(
     ensures count { vec_len outside.new.hands ≡ vec_len outside.old.hands }
     ensures store { X.S.shows outside.new.store ≡ X.S.shows outside.old.store }
     ensures rest { (outside.new.doors ≡ outside.old.doors) × (outside.new.links ≡ outside.old.links)
-        × (outside.new.clock ≡ outside.old.clock) }
+        × (outside.new.clock ≡ outside.old.clock) × (outside.new.cache ≡ outside.old.cache) }
 {
     match line_of(rt, alloc, seed, files, workers, &outside.gate) {
         Ok(line) => say(

@@ -6,7 +6,11 @@ use Rattle.path_canon.specs.Selected.{IsCauseFor}
 use Rattle.path_canon.specs.declared.fault.SelectFault.{SelectFault}
 use Rattle.path_canon.specs.declared.fault.SelectFault.TheVariants as refused
 use Rattle.dbgd_words.specs.Patterns.{PatternTexts}
-use Rattle.dbgd_words.specs.Words.{Line, asks_help, asks_ident, asks_query, asks_scan, asks_section, asks_serve, asks_sources, asks_trial, line_of, unreadable}
+use Rattle.find_client.specs.Find.{HasEndCause, WritesCertified}
+use Rattle.find_client.specs.declared.searching.FindEnd.{FindEnd}
+use Rattle.find_client.specs.declared.searching.FindEnd.TheVariants as found
+use Rattle.webapi_routes.specs.declared.route.Route.{Route}
+use Rattle.dbgd_words.specs.Words.{Line, asks_find, asks_help, asks_ident, asks_query, asks_scan, asks_section, asks_serve, asks_sources, asks_trial, line_of, unreadable}
 use Rattle.dbgd_words.proofs.OptionLemmas.{AsksByOptions, options_ask}
 use Rattle.dbgd_commands.specs.CommandCauses.{ScanStatus, TrialStatus}
 use Rattle.dbgd_commands.specs.Endings.{EndsSaying, SaysMemory, out_saying}
@@ -21,7 +25,8 @@ use Rattle.dbgd_commands.proofs.CauseLemmas.{by_ends, ident_status, section_stat
 use Rattle.dbgd_commands.proofs.QueryLemmas.{queries_wanting, query_ends, query_status}
 use Rattle.dbgd_commands.proofs.ScanLemmas.{scan_ends, scan_status}
 use Rattle.dbgd_run.specs.Causes.{HasStatus, HelpStatus}
-use Rattle.dbgd_run.specs.Needs.{is_serve}
+use Rattle.dbgd_run.specs.Find.{FindStatus, RunsFind, first_row, found_saying}
+use Rattle.dbgd_run.specs.Needs.{asks_others}
 use Rattle.dbgd_run.specs.Runs.{DoesLine, DoesWords, IsProgramRun, LacksRoom, Runs, SaysHelp}
 use Rattle.dbgd_run.specs.Selecting.{SelectStatus, Selects, SelectsNothing, scope_by, selecting, unselected, unselected_saying}
 use Rattle.dbgd_run.specs.Serve.{serve_words}
@@ -84,7 +89,26 @@ selects_map : {T : Type 0} (patterns : PatternTexts) (before after : ProgramStag
 selects_map patterns before after end f (selecting taken run) = selecting taken (f run)
 selects_map patterns before after end f (unselected run) = unselected run
 
--- what a line does where doors, links and clock are as they were; nothing is said so of one that selects files
+-- what the status of a search says
+find_status : {T : Type 0} (route : Route) (before after : ProgramStage T) (end : Status) → RunsFind route before after end
+    → FindStatus route before after end
+find_status route before after end run = go run.how run.said.ends run.found.certified run.found.cause
+  where
+    go : (how : FindEnd) → end ≡ (found_saying how).status
+        → WritesCertified route before.command.streams.out after.command.streams.out how
+        → HasEndCause before.cache (first_row before.links) before.command.streams.out route after.cache (first_row after.links)
+        after.command.streams.out how → FindStatus route before after end
+    go found.Cached is writes why = subst (FindStatus route before after) (sym is) writes
+    go found.Fetched is writes why = subst (FindStatus route before after) (sym is) writes
+    go found.NotKept is writes why = subst (FindStatus route before after) (sym is) (inl why)
+    go found.Nothing is writes why =
+        subst (FindStatus route before after) (sym is) (record { none = why.0; cache = why.1; links = why.2 })
+    go found.CacheFault is writes why = subst (FindStatus route before after) (sym is) (inl why.1)
+    go found.LinkFault is writes why = subst (FindStatus route before after) (sym is) (inr (inl why.2))
+    go found.WriteFault is writes why = subst (FindStatus route before after) (sym is) (inr (inr why))
+    go found.OutOfMemory is writes why = subst (FindStatus route before after) (sym is) tt
+
+-- what a line does where doors, links, clock and cache are as they were; nothing is said so of one that selects files, or of a search
 pub runs_apart : {T : Type 0} (s : Setting T) (line : Line) (before after : ProgramStage T) (end : Status)
     → Runs s line before.command after.command end → LeavesRest before after → DoesLine s line before after end
 runs_apart s (asks_ident path) before after end runs rest = record { runs = runs; rest = rest }
@@ -93,6 +117,7 @@ runs_apart s (asks_section path name) before after end runs rest = record { runs
 runs_apart s (asks_query path id) before after end runs rest = record { runs = runs; rest = rest }
 runs_apart s (asks_scan path workers patterns roots) before after end runs rest = absurd runs
 runs_apart s (asks_trial seed files workers) before after end runs rest = record { runs = runs; rest = rest }
+runs_apart s (asks_find cache route upstream) before after end runs rest = absurd runs
 runs_apart s asks_help before after end runs rest = record { runs = runs; rest = rest }
 runs_apart s (asks_serve path workers port secs sources upstream patterns roots) before after end runs rest = absurd runs
 runs_apart s unreadable before after end runs rest = record { runs = runs; rest = rest }
@@ -118,10 +143,11 @@ module _ {T : Type 0} (s : Setting T) (words : List (List ℕ)) (before after : 
   has_status (asks_serve path workers port secs sources upstream patterns roots) (unselected run) =
       unselects_status patterns end (ServeStatus s (serve_words path workers port secs sources upstream patterns roots) before after)
       before after run
+  has_status (asks_find cache route upstream) run = find_status route before after end run
   has_status unreadable run = subst (λ e. HasStatus s words unreadable before after e) (sym run.runs.says.ends) tt
 
-  -- doors, links and clock are as they were, unless a server is asked for
-  leaves_rest : (line : Line) → DoesLine s line before after end → is_serve line ≡ false → LeavesRest before after
+  -- doors, links, clock and cache are as they were, unless a server or a search is asked for
+  leaves_rest : (line : Line) → DoesLine s line before after end → asks_others line ≡ false → LeavesRest before after
   leaves_rest (asks_ident path) run none = run.rest
   leaves_rest (asks_sources path) run none = run.rest
   leaves_rest (asks_section path name) run none = run.rest
@@ -131,6 +157,7 @@ module _ {T : Type 0} (s : Setting T) (words : List (List ℕ)) (before after : 
   leaves_rest (asks_trial seed files workers) run none = run.rest
   leaves_rest asks_help run none = run.rest
   leaves_rest (asks_serve path workers port secs sources upstream patterns roots) run none = absurd (true≢false none)
+  leaves_rest (asks_find cache route upstream) run none = absurd (true≢false none)
   leaves_rest unreadable run none = run.rest
 
   -- a part for each command
@@ -156,6 +183,7 @@ module _ {T : Type 0} (s : Setting T) (words : List (List ℕ)) (before after : 
         selects_map patterns before after end
         (λ does. record { does = does; ends = serve_ends s words before after end does; complete = serve_complete s words before after end does })
         (subst (λ (l : Line). DoesLine s l before after end) is run);
+    find = λ cache route upstream is. inl (subst (λ (l : Line). DoesLine s l before after end) is run);
     usage = λ is. inl (subst (λ (l : Line). DoesLine s l before after end) is run).runs;
     causes = has_status (line_of words) run;
     rest = leaves_rest (line_of words) run;
@@ -188,6 +216,7 @@ module _ {T : Type 0} (s : Setting T) (words : List (List ℕ)) (before after : 
     lacks_status (asks_trial seed files workers) never = absurd never
     lacks_status asks_help asked = tt
     lacks_status (asks_serve path workers port secs sources upstream patterns roots) asked = tt
+    lacks_status (asks_find cache route upstream) asked = tt
     lacks_status unreadable asked = lacks.options
 
     pub lacks_room : (code : ℕ) → code ≡ code_of end → IsProgramRun s words before after code
@@ -202,6 +231,7 @@ module _ {T : Type 0} (s : Setting T) (words : List (List ℕ)) (before after : 
       trial = λ seed files workers is. absurd (asks (asks_trial seed files workers) is);
       help = λ is. record { text = []; says = inr lacks.alone.says; hands = lacks.alone.hands; store = lacks.alone.store };
       serve = λ path workers port secs sources upstream patterns roots is. unselected (nothing_lacks patterns);
+      find = λ cache route upstream is. inr lacks;
       usage = λ is. inr lacks;
       causes =
           subst (λ e. HasStatus s words (line_of words) before after e) (sym lacks.alone.says.ends)

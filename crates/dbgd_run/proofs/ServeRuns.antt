@@ -6,6 +6,7 @@ use Rattle.std.specs.Global.{Vec}
 use Rattle.std.proofs.lemmas.List.{length-map}
 use Rattle.std.proofs.lemmas.List.Elements.{All-nil, All-cons, All-head, All-tail}
 use Rattle.federation.specs.Link.{ShownLink}
+use Rattle.find_client.specs.Cache.{ShownCache}
 use Rattle.http_wire.specs.Door.{ShownDoor}
 use Rattle.http_wire.specs.Stream.{ShownStream}
 use Rattle.index_keeper.specs.Store.{ShownStore}
@@ -187,7 +188,7 @@ module _ {T D L : Type 0} (sees : D → ShownDoor) (views : L → ShownLink) (n 
       (subst (λ (hands : List T). AreWorkers hands (map sees (doors_at workers)) (rows_shown views (links_at workers)) (workers_at sees views workers))
       (sym (worker_hands n front (hands_at workers) rest long many_hands)) (are_workers sees views workers))
 
-module _ {T D L : Type 0} (s : Setting T) (words : ServeWords) (sees : D → ShownDoor) (views : L → ShownLink) (front rest : List T) (others : List (Vec L)) (old new : ShownStore) (woke : Option (List Waited)) (before after_streams : Streams) (share : ShareFacts) (book : BookFacts) (workers : List (Worker T D L)) (after : ServeStage T D L) (code : Status) where
+module _ {T D L : Type 0} (s : Setting T) (words : ServeWords) (sees : D → ShownDoor) (views : L → ShownLink) (front rest : List T) (others : List (Vec L)) (old new : ShownStore) (woke : Option (List Waited)) (cache : ShownCache) (before after_streams : Streams) (share : ShareFacts) (book : BookFacts) (workers : List (Worker T D L)) (after : ServeStage T D L) (code : Status) where
   -- hands that came back as they were
   hands_back : LeavesCrew (pass_stage [] front woke before share) workers after
       → after.hands ++ (hands_at after.workers ++ rest) ≡ front ++ (hands_at workers ++ rest)
@@ -195,9 +196,9 @@ module _ {T D L : Type 0} (s : Setting T) (words : ServeWords) (sees : D → Sho
 
   -- doors, rows of links and waits that came back as they were
   rest_back : LeavesCrew (pass_stage [] front woke before share) workers after
-      → LeavesRest (stage (command_stage (front ++ (hands_at workers ++ rest)) old before) (map sees (doors_at workers)) (rows_shown views (links_at workers ++ others)) woke)
-      (stage (command_stage (after.hands ++ (hands_at after.workers ++ rest)) new after_streams) (map sees (doors_at after.workers)) (rows_shown views (links_at after.workers ++ others)) after.woke)
-  rest_back same = rw (same.1, same.2) (record { doors = refl; links = refl; woke = refl })
+      → LeavesRest (stage (command_stage (front ++ (hands_at workers ++ rest)) old before) (map sees (doors_at workers)) (rows_shown views (links_at workers ++ others)) woke cache)
+      (stage (command_stage (after.hands ++ (hands_at after.workers ++ rest)) new after_streams) (map sees (doors_at after.workers)) (rows_shown views (links_at after.workers ++ others)) after.woke cache)
+  rest_back same = rw (same.1, same.2) (record { doors = refl; links = refl; woke = refl; cache = refl })
 
   pub runs_serve : (how : ServeEnd) → length front ≡ words.workers + 2 → length workers ≡ words.workers
       → length after.hands ≡ words.workers + 2 → length after.workers ≡ words.workers → All (IsFreshShare book) (shares_at workers) → IsFreshShare book share
@@ -205,8 +206,8 @@ module _ {T D L : Type 0} (s : Setting T) (words : ServeWords) (sees : D → Sho
       → ServesStore (serve_setting s (scope_in words) words.secs (served_setting s words) sees views) words.path
       (serving_line words.port words.workers) old new (pass_stage [] front woke before share) workers how after
       → SaysServeEnd how (ends_at after.workers) after.streams after_streams code
-      → RunsServe s words (stage (command_stage (front ++ (hands_at workers ++ rest)) old before) (map sees (doors_at workers)) (rows_shown views (links_at workers ++ others)) woke)
-      (stage (command_stage (after.hands ++ (hands_at after.workers ++ rest)) new after_streams) (map sees (doors_at after.workers)) (rows_shown views (links_at after.workers ++ others)) after.woke) code
+      → RunsServe s words (stage (command_stage (front ++ (hands_at workers ++ rest)) old before) (map sees (doors_at workers)) (rows_shown views (links_at workers ++ others)) woke cache)
+      (stage (command_stage (after.hands ++ (hands_at after.workers ++ rest)) new after_streams) (map sees (doors_at after.workers)) (rows_shown views (links_at after.workers ++ others)) after.woke cache) code
   runs_serve (Refused fault) long many back count fresh own sized linked store said = unopened fault (record {
     scans =
         let sum = length-append front (hands_at workers ++ rest) in
@@ -287,6 +288,7 @@ module _ {T D L : Type 0} (s : Setting T) (words : ServeWords) (sees : D → Sho
             other_rows views n (links_at after.workers) others end_rows
             ∙ sym (other_rows views n (links_at workers) others begin_rows);
         woke = from.woke;
+        cache = refl;
         out = said.out ∙ ap (λ (x : Streams). x.out) from.streams;
         err =
             subst (λ (shown : ShownStream). Gets (door_lines (map sees (doors_at after.workers))) shown after_streams.err)

@@ -1,13 +1,14 @@
 -- When a status comes (this project's rule): what each says, by the line.
 use Rattle.std.specs.Prelude.{ℕ, List, IsTrue}
 use Rattle.row_types.specs.Faults.{Rose}
-use Rattle.dbgd_words.specs.Words.{Line, asks_help, asks_ident, asks_query, asks_scan, asks_section, asks_serve}
+use Rattle.dbgd_words.specs.Words.{Line, asks_find, asks_help, asks_ident, asks_query, asks_scan, asks_section, asks_serve}
 use Rattle.dbgd_words.specs.Words.{asks_sources, asks_trial, has_options, unreadable}
 use Rattle.dbgd_commands.specs.CommandCauses.{FileStatus, ScanStatus, TrialStatus}
 use Rattle.dbgd_commands.specs.QueryCauses.{QueryStatus}
 use Rattle.dbgd_commands.specs.Stage.{CommandStage, ProgramStage, Setting}
 use Rattle.dbgd_commands.specs.declared.status.Status.{Status}
 use Rattle.dbgd_commands.specs.declared.status.Status.TheVariants.{Done, Fault, Usage, OutOfMemory}
+use Rattle.dbgd_run.specs.Find.{FindStatus}
 use Rattle.dbgd_run.specs.Selecting.{SelectStatus, scope_by}
 use Rattle.dbgd_run.specs.Serve.{serve_words}
 use Rattle.dbgd_run.specs.ServeCauses.{ServeStatus}
@@ -39,4 +40,5 @@ HasStatus s words asks_help before after status = HelpStatus before.command afte
 HasStatus s words (asks_serve path workers port secs sources upstream patterns roots) before after status =
     SelectStatus patterns status
     (ServeStatus s (serve_words path workers port secs sources upstream patterns roots) before after status)
+HasStatus s words (asks_find cache route upstream) before after status = FindStatus route before after status
 HasStatus s words unreadable before after status = UsageStatus words status

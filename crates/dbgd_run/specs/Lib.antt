@@ -1,5 +1,6 @@
 pub mod Beside
 pub mod Causes
+pub mod Find
 pub mod Needs
 pub mod RoundSaid
 pub mod Rounds

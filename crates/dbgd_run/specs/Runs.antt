@@ -5,7 +5,8 @@ use Rattle.file_formats.specs.Parts.{IsSomePart, IsSomeSection}
 use Rattle.file_formats.specs.Windows.{IsSomeWindow}
 use Rattle.path_scope.specs.Scope.{Scope}
 use Rattle.dbgd_words.specs.Patterns.{PatternTexts}
-use Rattle.dbgd_words.specs.Words.{Line, asks_help, asks_ident, asks_query, asks_scan, asks_section}
+use Rattle.webapi_routes.specs.declared.route.Route.{Route}
+use Rattle.dbgd_words.specs.Words.{Line, asks_find, asks_help, asks_ident, asks_query, asks_scan, asks_section}
 use Rattle.dbgd_words.specs.Words.{asks_serve, asks_sources, asks_trial, has_options, line_of, unreadable}
 use Rattle.dbgd_commands.specs.CommandCauses.{ScanEnds}
 use Rattle.dbgd_commands.specs.Endings.{EndsSaying, SaysMemory, no_memory_saying, out_saying}
@@ -22,7 +23,8 @@ use Rattle.dbgd_commands.specs.Trial.{RunsTrial}
 use Rattle.dbgd_commands.specs.declared.status.Status.{Status}
 use Rattle.dbgd_commands.specs.declared.status.Status.TheVariants.{Done}
 use Rattle.dbgd_run.specs.Causes.{HasStatus}
-use Rattle.dbgd_run.specs.Needs.{is_serve}
+use Rattle.dbgd_run.specs.Find.{RunsFind}
+use Rattle.dbgd_run.specs.Needs.{asks_others}
 use Rattle.dbgd_run.specs.Selecting.{SaysAlone, Selects, scope_by, usage_saying}
 use Rattle.dbgd_run.specs.Serve.{RunsServe, ServeWords, scope_in, serve_words}
 use Rattle.dbgd_run.specs.ServeCauses.{ServeEnds}
@@ -56,14 +58,15 @@ pub record IsServeRun {T : Type 0} (s : Setting T) (words : ServeWords) (before 
   pub ends : ServeEnds s before after status
   pub complete : IsFreeServe s (scope_in words) before after → CompletesServe s words before after status does
 
--- whether a line asks for what threads do: a scan, of folders or of generated files, or a server
-abbrev pub takes_threads : Line → Bool
-takes_threads (asks_scan path workers patterns roots) = true
-takes_threads (asks_serve path workers port secs sources upstream patterns roots) = true
-takes_threads (asks_trial seed files workers) = true
-takes_threads _ = false
+-- whether a line waits for others, for threads or for other servers: a scan, of folders or of generated files, a server or a search
+abbrev pub waits_for_others : Line → Bool
+waits_for_others (asks_scan path workers patterns roots) = true
+waits_for_others (asks_serve path workers port secs sources upstream patterns roots) = true
+waits_for_others (asks_trial seed files workers) = true
+waits_for_others (asks_find cache route upstream) = true
+waits_for_others _ = false
 
--- what a line of words does that selects no files, by what it asks
+-- what a line of words does that selects no files and is no search, by what it asks
 abbrev pub Runs : {T : Type 0} → Setting T → Line → CommandStage T → CommandStage T → Status → Type 0
 Runs s (asks_ident path) before after status =
     RunsFile s path (SaysIdent path) IsSomeWindow before after status
@@ -76,9 +79,10 @@ Runs s (asks_scan path workers patterns roots) before after status = ⊥
 Runs s (asks_trial seed files workers) before after status = RunsTrial seed files before after status
 Runs s asks_help before after status = SaysHelp before after status
 Runs s (asks_serve path workers port secs sources upstream patterns roots) before after status = ⊥
+Runs s (asks_find cache route upstream) before after status = ⊥
 Runs s unreadable before after status = SaysAlone usage_saying before after status
 
--- a line that selects no files, on all that there is: doors, links and clock are as they were
+-- such a line, on all that there is: doors, links, clock and cache are as they were
 pub record RunsApart {T : Type 0} (s : Setting T) (line : Line) (before after : ProgramStage T) (status : Status)
     : Type 0 where
   pub runs : Runs s line before.command after.command status
@@ -92,6 +96,7 @@ DoesLine s (asks_scan path workers patterns roots) before after status =
 DoesLine s (asks_serve path workers port secs sources upstream patterns roots) before after status =
     Selects patterns before after status
     (RunsServe s (serve_words path workers port secs sources upstream patterns roots) before after status)
+DoesLine s (asks_find cache route upstream) before after status = RunsFind route before after status
 DoesLine s line before after status = RunsApart s line before after status
 
 -- the words are read as options, and memory was refused for that
@@ -132,7 +137,9 @@ pub record IsProgramRun {T : Type 0} (s : Setting T) (words : List (List ℕ)) (
       → line_of words ≡ asks_serve path workers port secs sources upstream patterns roots
       → Selects patterns before after status
       (IsServeRun s (serve_words path workers port secs sources upstream patterns roots) before after status)
+  pub find : (cache : List ℕ) (route : Route) (upstream : List ServerFacts) → line_of words ≡ asks_find cache route upstream
+      → RunsFind route before after status ⊎ LacksRoom words before after status
   pub usage : line_of words ≡ unreadable
       → SaysAlone usage_saying before.command after.command status ⊎ LacksRoom words before after status
   pub causes : HasStatus s words (line_of words) before after status
-  pub rest : is_serve (line_of words) ≡ false → LeavesRest before after
+  pub rest : asks_others (line_of words) ≡ false → LeavesRest before after

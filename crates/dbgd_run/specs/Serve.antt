@@ -186,6 +186,7 @@ pub record HasServed {T : Type 0} (s : Setting T) (words : ServeWords) (before a
   pub others : drop (words.workers * 2 + 2) after.command.hands ≡ drop (words.workers * 2 + 2) before.command.hands
   pub other_links : drop words.workers after.links ≡ drop words.workers before.links
   pub woke : after.woke ≡ last.woke
+  pub cache : after.cache ≡ before.cache
   pub out : after.command.streams.out ≡ last.streams.out
   pub err : Gets (door_lines after.doors) last.streams.err after.command.streams.err
   pub ends :

@@ -146,8 +146,7 @@ pub(crate) fn run_beside<Y: ThreadKinds, Z: PassKinds, G: Gate, Rt: Threads + Wa
         ensures { SlotRan (λ before after. IsLater before.seat after.seat
             × KeepsPassing
             (setting (rules Y.W.version Y.W.true_row Y.W.told) Y.T.told Y.T.shows Y.K.told)
-            (scope_of shared.entry.now.site.now.roots.now (Z.P.takes select.entry.now))
-            shared.entry.now.site.now.secs
+            (scope_of shared.entry.now.site.now.roots.now (Z.P.takes select.entry.now)) shared.entry.now.site.now.secs
             (pass_stage before.seat.seen before.hands.items (Z.C.woke clock.entry.now)
             (streams Z.O.shows out.entry.now err.entry.now) before.share) result
             (pass_stage after.seat.seen after.hands.items (Z.C.woke clock.exit.now)

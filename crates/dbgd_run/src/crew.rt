@@ -167,15 +167,13 @@ pub(crate) fn hire<'a, X: Kinds>(
         rows: rows_room,
         other_rows,
     };
-    Ok((
-        Crew {
-            hands: first,
-            select,
-            share: shares.own,
-            workers,
-        },
-        rest,
-    ))
+    let crew = Crew {
+        hands: first,
+        select,
+        share: shares.own,
+        workers,
+    };
+    Ok((crew, rest))
 }
 
 /// What comes back where nothing was served.

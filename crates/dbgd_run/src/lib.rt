@@ -6,6 +6,7 @@ mod beside;
 mod crew;
 mod demands;
 mod door_crew;
+mod find;
 mod first_pass;
 mod line_fate;
 mod outside;

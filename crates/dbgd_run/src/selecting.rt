@@ -10,11 +10,10 @@ ghost use Rattle.dbgd_run.specs.Selecting.{Selects, scope_by};
 ghost use Rattle.dbgd_run.specs.Serve.{RunsServe, serve_words};
 
 use crate::refusal::say_unselected;
-use crate::serve::{ServeLine, run_serve};
+use crate::serve::{ServeParts, run_serve};
 use dbgd_commands::{Handed, Kinds, Staged, Status, run_scan};
-use dbgd_words::Patterns;
+use dbgd_words::{ScanLine, ServeLine};
 use path_canon::{Matching, Select, SelectFault};
-use row_types::CanonPath;
 use std::alloc::Global;
 use std::sync::Wait;
 use std::thread::Threads;
@@ -23,23 +22,22 @@ use std::thread::Threads;
 pub(crate) fn scan_selected<X: Kinds, Rt: Threads + Wait + Sync>(
     rt: &Rt,
     alloc: Global,
-    store: &str,
-    workers: u64,
-    patterns: Patterns<'_>,
-    roots: &[CanonPath],
+    line: &ScanLine<'_>,
     outside: &mut Handed<X>,
 ) -> Status
     requires hand { 0 < vec_len outside.old.hands }
-    requires fits { IsScanFit workers }
-    ensures runs { Selects (pattern_texts patterns.entry)
+    requires fits { IsScanFit line.now.workers }
+    ensures runs { Selects (pattern_texts line.now.patterns)
         (⟦<Handed<X> as Staged>⟧.stage outside.old) (⟦<Handed<X> as Staged>⟧.stage outside.new) result
-        (RunsScan ⟦<Handed<X> as Staged>⟧.setting store.now workers (scope_by (pattern_texts patterns.entry) roots.now)
+        (RunsScan ⟦<Handed<X> as Staged>⟧.setting line.now.store.now line.now.workers
+        (scope_by (pattern_texts line.now.patterns) line.now.roots.items)
         (⟦<Handed<X> as Staged>⟧.stage outside.old).command
         (⟦<Handed<X> as Staged>⟧.stage outside.new).command result
         × LeavesRest (⟦<Handed<X> as Staged>⟧.stage outside.old) (⟦<Handed<X> as Staged>⟧.stage outside.new)) }
     ensures count { vec_len outside.new.hands ≡ vec_len outside.old.hands }
     ensures rest { (outside.new.doors ≡ outside.old.doors) × (outside.new.links ≡ outside.old.links) }
 {
+    let patterns = line.patterns;
     let select = match Select::new(alloc, patterns.include, patterns.exclude) {
         Ok(select) => select,
         Err(fault) => return say_unselected(fault, &mut outside.out, &mut outside.err),
@@ -48,9 +46,9 @@ pub(crate) fn scan_selected<X: Kinds, Rt: Threads + Wait + Sync>(
         Ok(mut matching) => run_scan::<X, Matching<'_>, Rt>(
             rt,
             alloc,
-            store,
-            workers,
-            roots,
+            line.store,
+            line.workers,
+            line.roots.as_slice(),
             &mut matching,
             outside,
         ),
@@ -74,8 +72,8 @@ pub(crate) fn serve_selected<X: Kinds, Rt: Threads + Wait + Sync>(
         → Selects (pattern_texts line.entry.patterns)
         (⟦<Handed<X> as Staged>⟧.stage outside.old) (⟦<Handed<X> as Staged>⟧.stage outside.new) result
         (RunsServe ⟦<Handed<X> as Staged>⟧.setting
-        (serve_words line.entry.store.now line.entry.workers line.entry.port line.entry.secs line.entry.folders.1.items
-        upstream (pattern_texts line.entry.patterns) line.entry.folders.0.items)
+        (serve_words line.entry.store.now line.entry.workers line.entry.port line.entry.secs line.entry.sources.items
+        upstream (pattern_texts line.entry.patterns) line.entry.roots.items)
         (⟦<Handed<X> as Staged>⟧.stage outside.old)
         (⟦<Handed<X> as Staged>⟧.stage outside.new) result) }
     ensures count { vec_len outside.new.hands ≡ vec_len outside.old.hands }
@@ -85,6 +83,24 @@ pub(crate) fn serve_selected<X: Kinds, Rt: Threads + Wait + Sync>(
     let select = match Select::new(alloc, line.patterns.include, line.patterns.exclude) {
         Ok(select) => select,
         Err(fault) => return say_unselected(fault, &mut outside.out, &mut outside.err),
+    };
+    let ServeLine {
+        store,
+        workers,
+        port,
+        secs,
+        sources,
+        upstream: _,
+        patterns,
+        roots,
+    } = line;
+    let line = ServeParts {
+        store,
+        workers,
+        port,
+        secs,
+        patterns,
+        folders: (roots, sources),
     };
     run_serve::<X, Rt>(rt, alloc, line, &select, outside)
 }

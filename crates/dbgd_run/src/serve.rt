@@ -22,7 +22,7 @@ use std::thread::Threads;
 
 /// What the words of a server ask; which other servers stands in the rows of links.
 #[derive(Drop)]
-pub(crate) struct ServeLine<'a> {
+pub(crate) struct ServeParts<'a> {
     pub(crate) store: &'a str,
     pub(crate) workers: u64,
     pub(crate) port: u64,
@@ -41,12 +41,12 @@ fn joined(both: (Vec<CanonPath>, Vec<CanonPath>)) -> Result<Vec<CanonPath>, Allo
     Ok(folders)
 }
 
-/// Makes and hires what a server wants, serves by the files that are selected, says how that ended, and dismisses all, unless there is no
-/// memory for that.
+/// Makes and hires what a server wants, serves by the files that are selected, says how that ended, and
+/// dismisses all, unless there is no memory for that.
 fn serve_line<X: Kinds, Rt: Threads + Wait + Sync>(
     rt: &Rt,
     alloc: Global,
-    line: ServeLine<'_>,
+    line: ServeParts<'_>,
     select: &Select,
     outside: &mut Handed<X>,
 ) -> Result<Status, AllocError>
@@ -108,7 +108,7 @@ fn serve_line<X: Kinds, Rt: Threads + Wait + Sync>(
 pub(crate) fn run_serve<X: Kinds, Rt: Threads + Wait + Sync>(
     rt: &Rt,
     alloc: Global,
-    line: ServeLine<'_>,
+    line: ServeParts<'_>,
     select: &Select,
     outside: &mut Handed<X>,
 ) -> Status

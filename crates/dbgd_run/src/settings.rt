@@ -11,6 +11,7 @@ ghost use Rattle.dbgd_run.specs.Serving.{ServeSetting, serve_setting};
 use dbgd_commands::Outside;
 use elf_reading::ElfTruth;
 use federation::Link;
+use find_client::Cache;
 use http_wire::{Door, Sink};
 use index_keeper::Store;
 use tree_trait::{Clock, Gate, Tree};
@@ -40,7 +41,8 @@ impl<
     C: Clock + Drop,
     O: Sink,
     G: Gate + Drop,
-> ServeSettings for Outside<W, T, S, D, L, C, O, G> {
+    H: Cache + Drop,
+> ServeSettings for Outside<W, T, S, D, L, C, O, G, H> {
     type Hand = T;
 
     type Door = D;

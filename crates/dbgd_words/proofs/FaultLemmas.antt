@@ -18,8 +18,8 @@ use Rattle.clap.specs.declared.builder.action.ArgAction.TheVariants as action
 use Rattle.clap.specs.declared.builder.value_parser.ValueParser.{ValueParser}
 use Rattle.clap.specs.declared.error.kind.ErrorKind.{ErrorKind}
 use Rattle.clap.specs.declared.error.kind.ErrorKind.TheVariants.{OutOfMemory}
-use Rattle.dbgd_words.specs.Options.{query_app, query_faults, query_rows, scan_app, scan_faults, scan_rows, serve_app, serve_faults, serve_rows}
-use Rattle.dbgd_words.specs.Words.{Line, query_line, query_said, refused_line, scan_line, scan_said, serve_line, serve_said}
+use Rattle.dbgd_words.specs.Options.{find_app, find_faults, find_rows, query_app, query_faults, query_rows, scan_app, scan_faults, scan_rows, serve_app, serve_faults, serve_rows}
+use Rattle.dbgd_words.specs.Words.{Line, find_line, find_said, query_line, query_said, refused_line, scan_line, scan_said, serve_line, serve_said}
 
 -- there is one kind at most
 pub record AtMostOne (kinds : Kinds) : Type 0 where
@@ -235,6 +235,10 @@ serve_one : (words : List (List ℕ)) → AtMostOne (serve_faults words)
 unfolding serve_faults
 serve_one words = built_one (built serve_app).top refl nothing_held (argument_words serve_app words)
 
+find_one : (words : List (List ℕ)) → AtMostOne (find_faults words)
+unfolding find_faults
+find_one words = built_one (built find_app).top refl nothing_held (argument_words find_app words)
+
 -- what is asked by a line that is refused, by the one kind that there is
 pub query_refused : {L E : Type 0} (asked : L → Line) (words : List (List ℕ)) (kind : ErrorKind) (answer : Result L E)
     → (kind ≡ OutOfMemory) ⊎ IsAmong kind (query_faults words) → IfOk answer (λ line. kind ≡ OutOfMemory → ⊥)
@@ -256,3 +260,10 @@ pub serve_refused : {L E : Type 0} (asked : L → Line) (words : List (List ℕ)
 serve_refused asked words kind (Ok line) has real same =
     same ∙ ap (λ kinds. serve_said kinds (serve_rows words)) (sym (only_kind (serve_faults words) kind OutOfMemory (serve_one words) real has))
 serve_refused asked words kind (Err why) has real same = tt
+
+pub find_refused : {L E : Type 0} (asked : L → Line) (words : List (List ℕ)) (kind : ErrorKind) (answer : Result L E)
+    → (kind ≡ OutOfMemory) ⊎ IsAmong kind (find_faults words) → IfOk answer (λ line. kind ≡ OutOfMemory → ⊥)
+    → IfOk answer (λ line. asked line ≡ refused_line kind) → IfOk answer (λ line. asked line ≡ find_line words)
+find_refused asked words kind (Ok line) has real same =
+    same ∙ ap (λ kinds. find_said kinds (find_rows words)) (sym (only_kind (find_faults words) kind OutOfMemory (find_one words) real has))
+find_refused asked words kind (Err why) has real same = tt

@@ -11,9 +11,11 @@ use Rattle.clap.specs.Walk.{Row, all_of, first_of}
 use Rattle.row_types.specs.Canon.{canon}
 use Rattle.dbgd_words.specs.Limits.{FitsLimits, IsScanFit, IsServeFit}
 use Rattle.dbgd_words.specs.Numbers.{is_number, is_between, spelled_number}
-use Rattle.dbgd_words.specs.Options.{query_faults, query_rows, scan_faults, scan_rows, serve_faults, serve_rows}
+use Rattle.webapi_routes.specs.declared.route.Route.{Route}
+use Rattle.dbgd_words.specs.Options.{find_faults, find_rows, query_faults, query_rows, scan_faults, scan_rows, serve_faults, serve_rows}
 use Rattle.dbgd_words.specs.Patterns.{PatternTexts, patterns_in}
 use Rattle.dbgd_words.specs.Words.{Line, asks_help, asks_query, asks_scan, asks_trial, spelled_id, ident_line, is_help, is_root, line_of}
+use Rattle.dbgd_words.specs.Words.{asks_find, find_said, route_named, sought_by}
 use Rattle.dbgd_words.specs.Words.{asks_serve, number_given, query_said, scan_said, section_line, serve_said, served_by, source_folders, sources_line}
 use Rattle.dbgd_words.specs.Words.{program_line, program_words, servers_in, trial_words, unreadable, upstream_texts}
 use Rattle.dbgd_words.specs.declared.scan.TheConstants.{MOST_WORKERS}
@@ -131,6 +133,18 @@ serve_fits [] rows =
     (record { one = a.0; most = a.1; some = b.0; highest = b.1; longest = c.1 }))))))
 serve_fits (kind ∷ more) rows = by_test (is_help kind) asks_help unreadable tt tt
 
+sought_fits : (cache : List ℕ) (others : List (List ℕ)) (route : Route) → FitsLimits (sought_by cache others route)
+sought_fits cache others route = by_option (λ upstream. asks_find cache route upstream) (servers_in others) (λ upstream _. tt)
+
+find_fits : (kinds : Kinds) (rows : List Row) → FitsLimits (find_said kinds rows)
+find_fits [] rows =
+    by_option _ (first_of (codes "cache") rows) (λ cache _.
+    by_option _ (first_of (codes "KIND") rows) (λ kind _.
+    by_option _ (option_and_then spelled_id (first_of (codes "ID") rows)) (λ id _.
+    by_option _ (route_named kind id (first_of (codes "NAME") rows)) (λ route _.
+    sought_fits cache (upstream_texts (first_of (codes "upstream") rows)) route))))
+find_fits (kind ∷ more) rows = by_test (is_help kind) asks_help unreadable tt tt
+
 -- whatever the words are
 pub line_fits : (words : List (List ℕ)) → FitsLimits (line_of words)
 line_fits [] = tt
@@ -141,5 +155,6 @@ line_fits (command ∷ rest) =
     (by_test (bytes_eq command (codes "query")) _ _ (query_fits (query_faults (command ∷ rest)) (query_rows (command ∷ rest)))
     (by_test (bytes_eq command (codes "scan")) _ _ (scan_fits (scan_faults (command ∷ rest)) (scan_rows (command ∷ rest)))
     (by_test (bytes_eq command (codes "serve")) _ _ (serve_fits (serve_faults (command ∷ rest)) (serve_rows (command ∷ rest)))
+    (by_test (bytes_eq command (codes "find")) _ _ (find_fits (find_faults (command ∷ rest)) (find_rows (command ∷ rest)))
     (by_test (bytes_eq command (codes "trial")) _ _ (trial_fits rest)
-    (by_test (list_any (bytes_eq command) program_words) _ unreadable (program_fits rest) tt)))))))
+    (by_test (list_any (bytes_eq command) program_words) _ unreadable (program_fits rest) tt))))))))

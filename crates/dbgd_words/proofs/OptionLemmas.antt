@@ -10,9 +10,11 @@ use Rattle.clap.specs.Walk.{Row, all_of, first_of}
 use Rattle.clap.specs.declared.error.kind.ErrorKind.{ErrorKind}
 use Rattle.row_types.specs.Canon.{canon}
 use Rattle.dbgd_words.specs.Numbers.{spelled_number}
-use Rattle.dbgd_words.specs.Options.{query_faults, query_rows, scan_faults, scan_rows, serve_faults, serve_rows}
+use Rattle.webapi_routes.specs.declared.route.Route.{Route}
+use Rattle.dbgd_words.specs.Options.{find_faults, find_rows, query_faults, query_rows, scan_faults, scan_rows, serve_faults, serve_rows}
 use Rattle.dbgd_words.specs.Patterns.{PatternTexts, patterns_in}
 use Rattle.dbgd_words.specs.Words.{Line, asks_help, asks_query, asks_scan, has_options, spelled_id, is_help, is_root, line_of}
+use Rattle.dbgd_words.specs.Words.{asks_find, find_said, route_named, sought_by}
 use Rattle.dbgd_words.specs.Words.{asks_serve, number_given, query_said, refused_line, scan_said, serve_said, served_by, servers_in, source_folders, unreadable, upstream_texts}
 use Rattle.dbgd_words.specs.declared.scan.TheConstants.{MOST_WORKERS}
 use Rattle.dbgd_words.specs.declared.serve.TheConstants.{MOST_PORT, MOST_SECS}
@@ -22,6 +24,7 @@ abbrev pub AsksByOptions : Line → Type 0
 AsksByOptions (asks_query store id) = Unit {0}
 AsksByOptions (asks_scan store workers patterns roots) = Unit {0}
 AsksByOptions (asks_serve store workers port secs sources upstream patterns roots) = Unit {0}
+AsksByOptions (asks_find cache route upstream) = Unit {0}
 AsksByOptions asks_help = Unit {0}
 AsksByOptions unreadable = Unit {0}
 AsksByOptions _ = ⊥
@@ -70,21 +73,38 @@ serve_asks [] rows =
     (upstream_texts (first_of (codes "upstream") rows)) (patterns_in rows) folders)))))
 serve_asks (kind ∷ more) rows = refused_asks kind
 
+sought_asks : (cache : List ℕ) (others : List (List ℕ)) (route : Route) → AsksByOptions (sought_by cache others route)
+sought_asks cache others route = by_option (λ upstream. asks_find cache route upstream) (servers_in others) (λ upstream. tt)
+
+find_asks : (kinds : Kinds) (rows : List Row) → AsksByOptions (find_said kinds rows)
+find_asks [] rows =
+    by_option _ (first_of (codes "cache") rows) (λ cache.
+    by_option _ (first_of (codes "KIND") rows) (λ kind.
+    by_option _ (option_and_then spelled_id (first_of (codes "ID") rows)) (λ id.
+    by_option _ (route_named kind id (first_of (codes "NAME") rows)) (λ route.
+    sought_asks cache (upstream_texts (first_of (codes "upstream") rows)) route))))
+find_asks (kind ∷ more) rows = refused_asks kind
+
 -- they ask nothing else
 pub options_ask : (words : List (List ℕ)) → has_options words ≡ true → AsksByOptions (line_of words)
 options_ask [] h = absurd (true≢false (sym h))
 options_ask (command ∷ rest) h =
     go (bytes_eq command (codes "query")) refl (bytes_eq command (codes "scan")) refl (bytes_eq command (codes "serve")) refl
+    (bytes_eq command (codes "find")) refl
   where
     go : (query : Bool) → bytes_eq command (codes "query") ≡ query → (scan : Bool) → bytes_eq command (codes "scan") ≡ scan
-        → (serve : Bool) → bytes_eq command (codes "serve") ≡ serve → AsksByOptions (line_of (command ∷ rest))
-    go true is scan e serve f =
+        → (serve : Bool) → bytes_eq command (codes "serve") ≡ serve
+        → (find : Bool) → bytes_eq command (codes "find") ≡ find → AsksByOptions (line_of (command ∷ rest))
+    go true is scan e serve f find g =
         subst (λ c. AsksByOptions (line_of (c ∷ rest))) (sym ((bytes_eq-Decides command (codes "query")).0 is))
         (query_asks (query_faults (codes "query" ∷ rest)) (query_rows (codes "query" ∷ rest)))
-    go false e true is serve f =
+    go false e true is serve f find g =
         subst (λ c. AsksByOptions (line_of (c ∷ rest))) (sym ((bytes_eq-Decides command (codes "scan")).0 is))
         (scan_asks (scan_faults (codes "scan" ∷ rest)) (scan_rows (codes "scan" ∷ rest)))
-    go false e false f true is =
+    go false e false f true is find g =
         subst (λ c. AsksByOptions (line_of (c ∷ rest))) (sym ((bytes_eq-Decides command (codes "serve")).0 is))
         (serve_asks (serve_faults (codes "serve" ∷ rest)) (serve_rows (codes "serve" ∷ rest)))
-    go false e false f false g = absurd (cc)
+    go false e false f false g true is =
+        subst (λ c. AsksByOptions (line_of (c ∷ rest))) (sym ((bytes_eq-Decides command (codes "find")).0 is))
+        (find_asks (find_faults (codes "find" ∷ rest)) (find_rows (codes "find" ∷ rest)))
+    go false e false f false g false k = absurd (cc)

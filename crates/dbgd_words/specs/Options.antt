@@ -1,4 +1,4 @@
--- The arguments of `query`, `scan` and `serve` (this project's rule), in the words of `clap`. Each is a simple command of that
+-- The arguments of `query`, `scan`, `serve` and `find` (this project's rule), in the words of `clap`. Each is a simple command of that
 -- crate, whose reading of the words decides which text belongs to which argument; what a text says is decided in `Words`.
 use Rattle.std.specs.Prelude.{ℕ, true, List, [], ◌∷◌, Some, codes}
 use Rattle.clap.specs.Faults.{fault_of}
@@ -44,6 +44,14 @@ sources_rule = long_rule (codes "sources")
 abbrev pub upstream_rule : Rule
 upstream_rule = long_rule (codes "upstream")
 
+-- `--upstream URLS`, which has to be there
+abbrev pub servers_rule : Rule
+servers_rule = record upstream_rule { required = true }
+
+-- `--cache DIR`: it has to be there
+abbrev pub cache_rule : Rule
+cache_rule = record (long_rule (codes "cache")) { required = true }
+
 -- `-I PATTERN`, `--include PATTERN`
 abbrev pub include_rule : Rule
 include_rule = option_rule 73 (codes "include")
@@ -63,6 +71,14 @@ scan_file_dir_rule = record (new_rule (codes "scan-file-dir")) {
 -- `ID`: one text
 abbrev pub id_rule : Rule
 id_rule = record (new_rule (codes "ID")) { required = true; action = Some Set }
+
+-- `KIND`: one text
+abbrev pub kind_rule : Rule
+kind_rule = record (new_rule (codes "KIND")) { required = true; action = Some Set }
+
+-- `NAME`: one text, or none
+abbrev pub name_rule : Rule
+name_rule = record (new_rule (codes "NAME")) { action = Some Set }
 
 -- `DIR`: one text or more
 abbrev pub folders_rule : Rule
@@ -102,6 +118,14 @@ serve_app =
     with_rule (with_rule (with_rule (with_rule patterns_app scan_file_dir_rule) sources_rule)
     upstream_rule) folders_rule
 
+-- the command `find` with its folder and its servers alone
+abbrev pub sought_app : App
+sought_app = with_rule (with_rule (command_app (codes "find")) cache_rule) servers_rule
+
+-- the command `find`
+abbrev pub find_app : App
+find_app = with_rule (with_rule (with_rule sought_app kind_rule) id_rule) name_rule
+
 -- why `clap` refuses a line of `query`; nothing where it reads it
 unfoldable pub query_faults : List (List ℕ) → Kinds
 query_faults words = fault_of query_app words
@@ -125,3 +149,11 @@ serve_faults words = fault_of serve_app words
 -- which texts of a line of `serve` belong to which argument
 unfoldable pub serve_rows : List (List ℕ) → List Row
 serve_rows words = matches_of serve_app words
+
+-- why `clap` refuses a line of `find`; nothing where it reads it
+unfoldable pub find_faults : List (List ℕ) → Kinds
+find_faults words = fault_of find_app words
+
+-- which texts of a line of `find` belong to which argument
+unfoldable pub find_rows : List (List ℕ) → List Row
+find_rows words = matches_of find_app words

@@ -18,7 +18,10 @@ use Rattle.row_types.specs.declared.build_id.TheConstants.{SHORTEST_ID, LONGEST_
 use Rattle.row_types.specs.declared.limits.TheConstants.{PATH_LIMIT}
 use Rattle.dbgd_words.specs.Numbers.{is_between, spelled_number}
 use Rattle.dbgd_words.specs.Patterns.{PatternTexts, patterns_in}
-use Rattle.dbgd_words.specs.Options.{query_faults, query_rows, scan_faults, scan_rows, serve_faults, serve_rows}
+use Rattle.webapi_routes.specs.declared.route.Route.{Route}
+use Rattle.webapi_routes.specs.declared.route.Route.TheVariants.{Debuginfo, Executable, Section, Source}
+use Rattle.dbgd_words.specs.Options.{find_faults, find_rows, query_faults, query_rows, scan_faults, scan_rows}
+use Rattle.dbgd_words.specs.Options.{serve_faults, serve_rows}
 use Rattle.dbgd_words.specs.declared.scan.TheConstants.{MOST_WORKERS}
 use Rattle.dbgd_words.specs.declared.serve.TheConstants.{MOST_PORT, MOST_SECS}
 use Rattle.dbgd_words.specs.declared.trial.TheConstants.{MOST_FILES}
@@ -26,8 +29,8 @@ use Rattle.dbgd_words.specs.declared.trial.TheConstants.{MOST_FILES}
 -- what a line asks: the identity of the file at a path, its source paths, the section of a name of it, the rows that a
 -- store holds of an id, a scan of folders into a store by so many workers, with patterns, a server of a store by so many workers
 -- on a port, with so many seconds from one scan of its folders to the next, further folders for sources, other servers that it
--- asks, and patterns for its scans, a scan of so many generated files of a seed, the help or version of the program or of a
--- command, or nothing that can be read
+-- asks, and patterns for its scans, a search for a route in the cache of a folder and on other servers, a scan of so many
+-- generated files of a seed, the help or version of the program or of a command, or nothing that can be read
 pub data Line : Type 0 where
   asks_ident : (path : List ℕ) → Line
   asks_sources : (path : List ℕ) → Line
@@ -36,6 +39,7 @@ pub data Line : Type 0 where
   asks_scan : (store : List ℕ) (workers : ℕ) (patterns : PatternTexts) (roots : List (List ℕ)) → Line
   asks_serve : (store : List ℕ) (workers : ℕ) (port : ℕ) (secs : ℕ) (sources : List (List ℕ))
       (upstream : List ServerFacts) (patterns : PatternTexts) (roots : List (List ℕ)) → Line
+  asks_find : (cache : List ℕ) (route : Route) (upstream : List ServerFacts) → Line
   asks_trial : (seed : ℕ) (files : ℕ) (workers : ℕ) → Line
   asks_help : Line
   unreadable : Line
@@ -130,6 +134,39 @@ serve_asked store workers port secs sources others patterns folders = option_map
     option_map_or (λ folders. served_by store workers port secs sources others patterns folders)
     folders unreadable) secs unreadable) port unreadable) workers unreadable) store unreadable
 
+-- a file has no name
+abbrev pub file_named : Route → Option (List ℕ) → Option Route
+file_named route None = Some route
+file_named route (Some name) = None
+
+-- the source of an id at a path: one that has a canonical path
+abbrev pub source_named : List ℕ → List ℕ → Option Route
+source_named id name = if is_root name then Some (Source id (canon name)) else None
+
+-- the section of an id that has a name: one of a byte at least
+abbrev pub section_named : List ℕ → List ℕ → Option Route
+section_named id name = if nat_le 1 (length name) then Some (Section id name) else None
+
+-- what a kind and an id name: a source and a section by their names, a file by none
+abbrev pub route_named : List ℕ → List ℕ → Option (List ℕ) → Option Route
+route_named kind id name =
+    if bytes_eq kind (codes "debuginfo") then file_named (Debuginfo id) name
+    else (if bytes_eq kind (codes "executable") then file_named (Executable id) name
+    else (if bytes_eq kind (codes "source") then option_and_then (source_named id) name
+    else (if bytes_eq kind (codes "section") then option_and_then (section_named id) name else None)))
+
+-- a search for a route: each of the texts for servers is an address
+abbrev pub sought_by : List ℕ → List (List ℕ) → Route → Line
+sought_by cache others route = option_map_or (λ upstream. asks_find cache route upstream) (servers_in others) unreadable
+
+-- a folder, a kind, the text of an id, a name if there is one, and the texts for servers
+abbrev pub find_asked : Option (List ℕ) → Option (List ℕ) → Option (List ℕ) → Option (List ℕ) → List (List ℕ) → Line
+find_asked cache kind id name others = option_map_or (λ cache.
+    option_map_or (λ kind.
+    option_map_or (λ id.
+    option_map_or (sought_by cache others) (route_named kind id name) unreadable)
+    (option_and_then spelled_id id) unreadable) kind unreadable) cache unreadable
+
 -- a line of `query`, by why it is refused and by the texts of its arguments
 abbrev pub query_said : Kinds → List Row → Line
 query_said [] rows = query_asked (first_of (codes "database") rows) (first_of (codes "ID") rows)
@@ -151,6 +188,13 @@ serve_said [] rows =
     (patterns_in rows) (all_of (codes "DIR") rows)
 serve_said (kind ∷ more) rows = refused_line kind
 
+-- a line of `find`, by the same
+abbrev pub find_said : Kinds → List Row → Line
+find_said [] rows =
+    find_asked (first_of (codes "cache") rows) (first_of (codes "KIND") rows) (first_of (codes "ID") rows)
+    (first_of (codes "NAME") rows) (upstream_texts (first_of (codes "upstream") rows))
+find_said (kind ∷ more) rows = refused_line kind
+
 -- the line of `query`, its name among the words
 abbrev pub query_line : List (List ℕ) → Line
 query_line words = query_said (query_faults words) (query_rows words)
@@ -162,6 +206,10 @@ scan_line words = scan_said (scan_faults words) (scan_rows words)
 -- the line of `serve`, its name among the words
 abbrev pub serve_line : List (List ℕ) → Line
 serve_line words = serve_said (serve_faults words) (serve_rows words)
+
+-- the line of `find`, its name among the words
+abbrev pub find_line : List (List ℕ) → Line
+find_line words = find_said (find_faults words) (find_rows words)
 
 -- a seed below 2^64, a number of files, 1 to 100,000, and one of workers, 1 to 64
 abbrev pub trial_asked : List ℕ → List ℕ → List ℕ → Line
@@ -193,11 +241,13 @@ line_of (command ∷ rest) =
     else (if bytes_eq command (codes "query") then query_line (command ∷ rest)
     else (if bytes_eq command (codes "scan") then scan_line (command ∷ rest)
     else (if bytes_eq command (codes "serve") then serve_line (command ∷ rest)
+    else (if bytes_eq command (codes "find") then find_line (command ∷ rest)
     else (if bytes_eq command (codes "trial") then trial_words rest
-    else (if list_any (bytes_eq command) program_words then program_line rest else unreadable)))))))
+    else (if list_any (bytes_eq command) program_words then program_line rest else unreadable))))))))
 
 -- whether the words are read as options, which takes memory
 abbrev pub has_options : List (List ℕ) → Bool
 has_options [] = false
 has_options (command ∷ rest) =
-    bytes_eq command (codes "query") || (bytes_eq command (codes "scan") || bytes_eq command (codes "serve"))
+    bytes_eq command (codes "query")
+    || (bytes_eq command (codes "scan") || (bytes_eq command (codes "serve") || bytes_eq command (codes "find")))

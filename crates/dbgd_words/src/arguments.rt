@@ -1,12 +1,13 @@
-//! The arguments of `query`, `scan` and `serve`.
+//! The arguments of `query`, `scan`, `serve` and `find`.
 
 ghost use Rattle.std.specs.Prelude.{◌≡◌, false, map, option_map, IfOk};
 ghost use Rattle.clap.specs.Matches.{found_of};
 ghost use Rattle.clap.specs.Walk.{all_of, first_of, rows_of, rule_of};
 ghost use Rattle.clap.specs.Simple.{app_of};
-ghost use Rattle.dbgd_words.specs.Options.{command_app, concurrency_rule, database_rule, exclude_rule};
-ghost use Rattle.dbgd_words.specs.Options.{folders_rule, id_rule, include_rule, port_rule};
-ghost use Rattle.dbgd_words.specs.Options.{rescan_time_rule, scan_file_dir_rule, sources_rule};
+ghost use Rattle.dbgd_words.specs.Options.{cache_rule, command_app, concurrency_rule, database_rule};
+ghost use Rattle.dbgd_words.specs.Options.{exclude_rule, folders_rule, id_rule, include_rule};
+ghost use Rattle.dbgd_words.specs.Options.{kind_rule, name_rule, port_rule, rescan_time_rule};
+ghost use Rattle.dbgd_words.specs.Options.{scan_file_dir_rule, servers_rule, sources_rule};
 ghost use Rattle.dbgd_words.specs.Options.{upstream_rule};
 
 use clap::{Arg, ArgAction, ArgMatches, Command};
@@ -136,6 +137,53 @@ pub fn upstream<'a>(alloc: Global) -> Arg<'a>
         .long("upstream")
         .value_name("URLS")
         .help("Servers to ask for what isn't here, with spaces between them")
+        .action(ArgAction::Set)
+}
+
+/// `--cache DIR`.
+pub fn cache<'a>(alloc: Global) -> Arg<'a>
+    ensures rule { rule_of result ≡ cache_rule }
+    ensures local { result.global ≡ false }
+{
+    Arg::new(alloc, "cache")
+        .long("cache")
+        .value_name("DIR")
+        .help("The folder of files that were fetched; it is made where it isn't there")
+        .required(true)
+        .action(ArgAction::Set)
+}
+
+/// `--upstream URLS`, which has to be there.
+pub fn servers<'a>(alloc: Global) -> Arg<'a>
+    ensures rule { rule_of result ≡ servers_rule }
+    ensures local { result.global ≡ false }
+{
+    Arg::new(alloc, "upstream")
+        .long("upstream")
+        .value_name("URLS")
+        .help("Servers to ask for what isn't in the folder, with spaces between them")
+        .required(true)
+        .action(ArgAction::Set)
+}
+
+/// `KIND`.
+pub fn kind<'a>(alloc: Global) -> Arg<'a>
+    ensures rule { rule_of result ≡ kind_rule }
+    ensures local { result.global ≡ false }
+{
+    Arg::new(alloc, "KIND")
+        .help("What is wanted: debuginfo, executable, source or section")
+        .required(true)
+        .action(ArgAction::Set)
+}
+
+/// `NAME`.
+pub fn name<'a>(alloc: Global) -> Arg<'a>
+    ensures rule { rule_of result ≡ name_rule }
+    ensures local { result.global ≡ false }
+{
+    Arg::new(alloc, "NAME")
+        .help("The path of a source, from / on, or the name of a section")
         .action(ArgAction::Set)
 }
 

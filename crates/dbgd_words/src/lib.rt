@@ -3,6 +3,7 @@
 #![tactic(auto)]
 
 mod arguments;
+mod find;
 mod line;
 mod number;
 mod patterns;
@@ -16,6 +17,6 @@ mod serve;
 mod trial;
 mod upstream;
 
-pub use line::Line;
+pub use line::{FindLine, Line, ScanLine, ServeLine};
 pub use patterns::Patterns;
 pub use reading::read_line;

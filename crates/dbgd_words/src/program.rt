@@ -24,13 +24,14 @@ Commands:
   query -d DB ID              Prints the rows of a build-id that a store holds
   trial SEED FILES WORKERS    Scans generated files in memory, and prints what it has then
   serve -d DB DIR..           Serves the files under folders to debuggers, over HTTP
+  find WORDS..                Writes what a build-id names, from a cache or from other servers
 
 Options:
   -h, --help       Print help
   -V, --version    Print version
 
-`dbgd serve --help`, `dbgd scan --help` and `dbgd query --help` have the options of these three with
-their defaults, and their exit statuses. The manual is docs/COMMANDS.md, of the server docs/SERVING.md.
+`dbgd serve --help`, `dbgd scan --help`, `dbgd query --help` and `dbgd find --help` have the options of
+these four with their defaults, and their exit statuses. The manual is docs/COMMANDS.md, of the server docs/SERVING.md.
 
 Example: dbgd serve -d index.db -p 8002 /usr/bin /usr/lib/debug
 and then: DEBUGINFOD_URLS=http://localhost:8002 gdb /usr/bin/ls

@@ -72,7 +72,7 @@ fn query_of<'a>(matches: &ArgMatches<'a>) -> Line<'a>
 }
 
 /// The id that a text spells.
-fn id_of(text: &str) -> Option<BuildId>
+pub fn id_of(text: &str) -> Option<BuildId>
     ensures { result ≡ spelled_id text.now }
 {
     let id = BuildId::parse(text.as_bytes())?;

@@ -7,6 +7,7 @@ ghost use Rattle.dbgd_words.specs.Pinned.{ArePinnedWordLimits};
 ghost use Rattle.dbgd_words.specs.Words.{has_options, ident_line, line_of, section_line};
 ghost use Rattle.dbgd_words.specs.Words.{sources_line};
 
+use crate::find::read_find;
 use crate::line::Line;
 use crate::program::{HELP, VERSION, program};
 use crate::query::read_query;
@@ -32,6 +33,7 @@ pub fn read_line(alloc: Global, words: &[String]) -> Result<Line<'_>, AllocError
         "query" => read_query(alloc, words),
         "scan" => read_scan(alloc, words),
         "serve" => read_serve(alloc, words),
+        "find" => read_find(alloc, words),
         "trial" => Ok(trial(rest)),
         "--help" | "-h" => Ok(program(rest, HELP)),
         "--version" | "-V" => Ok(program(rest, VERSION)),

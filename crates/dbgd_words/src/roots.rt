@@ -30,7 +30,7 @@ pub fn are_roots(folders: &[&str]) -> bool
 }
 
 /// Whether a folder has a canonical path.
-fn is_root(folder: &str) -> bool
+pub fn is_root(folder: &str) -> bool
     ensures { result ≡ is_root folder.now }
 {
     is_absolute(folder) && folder.len() <= PATH_LIMIT
@@ -47,7 +47,7 @@ fn is_absolute(text: &str) -> bool
 }
 
 /// The path of a folder that has one.
-fn path_of(alloc: Global, folder: &str) -> Result<CanonPath, AllocError>
+pub fn path_of(alloc: Global, folder: &str) -> Result<CanonPath, AllocError>
     requires { is_root folder.now ≡ true }
     ensures { IfOk result (λ path. path ≡ canon folder.now) }
 {

@@ -14,7 +14,7 @@ ghost use Rattle.dbgd_words.specs.Words.{scan_asked, scan_line};
 use crate::arguments::{
     command, concurrency, database, exclude, folders, include, scan_file_dir, text_of, texts_of,
 };
-use crate::line::Line;
+use crate::line::{Line, ScanLine};
 use crate::number::number_in;
 use crate::patterns::patterns_of;
 use crate::refusal::refused;
@@ -104,12 +104,12 @@ fn scan_of<'a>(alloc: Global, matches: &ArgMatches<'a>) -> Result<Line<'a>, Allo
         return Ok(Line::Usage);
     }
     let roots = paths_of(alloc, folders)?;
-    Ok(Line::Scan {
+    Ok(Line::Scan(ScanLine {
         store,
         workers,
         patterns: patterns_of(matches),
         roots,
-    })
+    }))
 }
 
 /// Reads the words of `scan`, its name among them.

@@ -19,13 +19,13 @@ use crate::arguments::{
     command, concurrency, database, exclude, folders, include, port, rescan_time, scan_file_dir,
     sources, text_of, texts_of, upstream,
 };
-use crate::line::Line;
+use crate::line::{Line, ServeLine};
 use crate::number::number_in;
 use crate::patterns::{Patterns, patterns_of};
 use crate::refusal::refused;
 use crate::roots::{are_roots, paths_of};
 use crate::scan::MOST_WORKERS;
-use crate::upstream::{servers_of, spaced};
+use crate::upstream::{servers_of, upstream_of};
 use clap::{ArgMatches, Command, Error};
 use std::alloc::{AllocError, Global};
 
@@ -156,17 +156,6 @@ fn sources_of<'a>(alloc: Global, matches: &ArgMatches<'a>) -> Result<Vec<&'a str
     }
 }
 
-/// The addresses of other servers, which the text of an argument names.
-fn upstream_of<'a>(alloc: Global, matches: &ArgMatches<'a>) -> Result<Vec<&'a str>, AllocError>
-    ensures { IfOk result (λ all. map (λ piece. piece.now) all.items
-        ≡ upstream_texts (first_of (codes "upstream") (rows_of (found_of matches.now)))) }
-{
-    match text_of(matches, "upstream") {
-        Some(text) => spaced(alloc, text),
-        None => Ok(Vec::new(alloc)),
-    }
-}
-
 /// What is asked of a store with these numbers, patterns, further folders for sources, other servers,
 /// and folders.
 fn with_folders<'a>(
@@ -198,7 +187,7 @@ fn with_folders<'a>(
         secs,
     } = numbers;
     match servers {
-        Some(upstream) => Ok(Line::Serve {
+        Some(upstream) => Ok(Line::Serve(ServeLine {
             store,
             workers,
             port,
@@ -207,7 +196,7 @@ fn with_folders<'a>(
             upstream,
             patterns,
             roots,
-        }),
+        })),
         None => Ok(Line::Usage),
     }
 }

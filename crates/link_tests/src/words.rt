@@ -5,17 +5,18 @@ mod helps;
 mod lines;
 
 use crate::words::helps::{
-    PROGRAM_HELP, PROGRAM_HELPS, QUERY_HELP, QUERY_HELPS, SCAN_HELP, SCAN_HELPS, SERVE_HELP,
-    SERVE_HELPS, VERSIONS,
+    FIND_HELP, FIND_HELPS, PROGRAM_HELP, PROGRAM_HELPS, QUERY_HELP, QUERY_HELPS, SCAN_HELP,
+    SCAN_HELPS, SERVE_HELP, SERVE_HELPS, VERSIONS,
 };
 use crate::words::lines::{
-    FILES, OPTIONS, PATTERNS, QUERIES, SCANS, SERVE_OPTIONS, SERVERS, TRIALS,
+    FILES, OPTIONS, PATTERNS, QUERIES, SCANS, SEARCHES, SERVE_OPTIONS, SERVERS, TRIALS, UNSOUGHT,
 };
-use dbgd_words::{Line, Patterns, read_line};
+use dbgd_words::{FindLine, Line, Patterns, ScanLine, ServeLine, read_line};
 use federation::UpstreamAt;
 use row_types::{BuildId, CanonPath};
 use std::alloc::Global;
 use std::process::Abort;
+use webapi_routes::print;
 
 /// The words as the program gets them.
 fn words_of(rt: &impl Abort, alloc: Global, words: &[&str]) -> Vec<String> {
@@ -48,17 +49,11 @@ fn push_patterns(rt: &impl Abort, text: &mut String, patterns: Patterns<'_>) {
 }
 
 /// What a scan says: its number, its folders and its patterns.
-fn said_of_scan(
-    rt: &impl Abort,
-    alloc: Global,
-    store: &str,
-    workers: u64,
-    patterns: Patterns<'_>,
-    roots: &[CanonPath],
-) -> String {
+fn said_of_scan(rt: &impl Abort, alloc: Global, line: &ScanLine<'_>) -> String {
+    let (store, workers) = (line.store, line.workers);
     let mut text = format!(in alloc; "scan {store} {workers}").expect(rt, "memory");
-    push_folders(rt, &mut text, " ", roots);
-    push_patterns(rt, &mut text, patterns);
+    push_folders(rt, &mut text, " ", line.roots.as_slice());
+    push_patterns(rt, &mut text, line.patterns);
     text
 }
 
@@ -87,22 +82,24 @@ fn push_servers(
 
 /// What a server says: its numbers, its folders, those for sources behind a colon each, the servers that
 /// it asks, behind a greater-than sign each, and its patterns.
-fn said_of_server(
-    rt: &impl Abort,
-    alloc: Global,
-    store: &str,
-    numbers: (u64, u64, u64),
-    sources: &[CanonPath],
-    upstream: &[UpstreamAt],
-    patterns: Patterns<'_>,
-    roots: &[CanonPath],
-) -> String {
-    let (workers, port, secs) = numbers;
+fn said_of_server(rt: &impl Abort, alloc: Global, line: &ServeLine<'_>) -> String {
+    let (store, workers, port, secs) = (line.store, line.workers, line.port, line.secs);
     let mut text = format!(in alloc; "serve {store} {workers} {port} {secs}").expect(rt, "memory");
-    push_folders(rt, &mut text, " ", roots);
-    push_folders(rt, &mut text, ":", sources);
-    push_servers(rt, alloc, &mut text, ">", upstream);
-    push_patterns(rt, &mut text, patterns);
+    push_folders(rt, &mut text, " ", line.roots.as_slice());
+    push_folders(rt, &mut text, ":", line.sources.as_slice());
+    push_servers(rt, alloc, &mut text, ">", line.upstream.as_slice());
+    push_patterns(rt, &mut text, line.patterns);
+    text
+}
+
+/// What a search says: its folder, the target of its route, and the servers that it asks, behind a
+/// greater-than sign each.
+fn said_of_search(rt: &impl Abort, alloc: Global, line: &FindLine<'_>) -> String {
+    let target = print(alloc, &line.route).expect(rt, "memory");
+    let target = String::from_utf8(target).ok().expect(rt, "UTF-8");
+    let cache = line.cache;
+    let mut text = format!(in alloc; "find {cache} {target}").expect(rt, "memory");
+    push_servers(rt, alloc, &mut text, ">", line.upstream.as_slice());
     text
 }
 
@@ -113,31 +110,9 @@ fn said(rt: &impl Abort, alloc: Global, line: &Line<'_>) -> String {
         Line::Sources { path } => format!(in alloc; "sources {path}"),
         Line::Section { path, name } => format!(in alloc; "section {path} {name}"),
         Line::Query { store, id } => Ok(said_of_query(rt, alloc, store, id)),
-        Line::Scan {
-            store,
-            workers,
-            patterns,
-            roots,
-        } => Ok(said_of_scan(rt, alloc, store, *workers, *patterns, roots.as_slice())),
-        Line::Serve {
-            store,
-            workers,
-            port,
-            secs,
-            sources,
-            upstream,
-            patterns,
-            roots,
-        } => Ok(said_of_server(
-            rt,
-            alloc,
-            store,
-            (*workers, *port, *secs),
-            sources.as_slice(),
-            upstream.as_slice(),
-            *patterns,
-            roots.as_slice(),
-        )),
+        Line::Scan(line) => Ok(said_of_scan(rt, alloc, line)),
+        Line::Serve(line) => Ok(said_of_server(rt, alloc, line)),
+        Line::Find(line) => Ok(said_of_search(rt, alloc, line)),
         Line::Trial {
             seed,
             files,
@@ -187,11 +162,14 @@ fn words_ask_what_they_say(rt: HostRuntime) {
     each_says(&rt, alloc, &PATTERNS);
     each_says(&rt, alloc, &SERVERS);
     each_says(&rt, alloc, &SERVE_OPTIONS);
+    each_says(&rt, alloc, &SEARCHES);
+    each_says(&rt, alloc, &UNSOUGHT);
     each_says(&rt, alloc, &VERSIONS);
     all_say(&rt, alloc, &PROGRAM_HELPS, PROGRAM_HELP);
     all_say(&rt, alloc, &SCAN_HELPS, SCAN_HELP);
     all_say(&rt, alloc, &QUERY_HELPS, QUERY_HELP);
     all_say(&rt, alloc, &SERVE_HELPS, SERVE_HELP);
+    all_say(&rt, alloc, &FIND_HELPS, FIND_HELP);
 }
 
 /// A text, and behind it a character so many times.

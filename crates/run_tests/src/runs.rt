@@ -9,6 +9,7 @@ mod ends;
 mod failing_hands;
 mod failing_stores;
 mod files;
+mod finds;
 mod hands;
 mod queries;
 mod rig;

@@ -2,6 +2,7 @@
 
 use dbgd_run::{MemSink, Outside, Sink, needs, run};
 use federation::MemLink;
+use find_client::MemCache;
 use http_wire::MemDoor;
 use index_keeper::Store;
 use row_types::OpenWorld;
@@ -23,6 +24,7 @@ pub type Around<S> = Outside<
     MemClock,
     MemSink,
     NoGate,
+    MemCache,
 >;
 
 /// A scan of three debug files and two sources.
@@ -60,6 +62,7 @@ pub fn around<S: Store<OpenWorld>>(rt: &impl Abort, alloc: Global, store: S) -> 
         links: Vec::new(alloc),
         clock: MemClock::new(alloc, 0),
         gate: NoGate,
+        cache: MemCache::new(alloc, Vec::new(alloc), Vec::new(alloc)),
         of: PhantomData::<OpenWorld>,
     }
 }
@@ -74,6 +77,7 @@ pub fn scan<S: Store<OpenWorld>, Rt: Threads + Wait + Sync + Abort>(
     let words = scan_words(rt, alloc);
     let needs = needs(alloc, words.as_slice()).expect(rt, "memory");
     assert!(rt; needs.doors == 0, "a server");
+    assert!(rt; needs.rows == 0, "rows of links");
     outside.out = sink(alloc);
     outside.err = sink(alloc);
     run(rt, alloc, words.as_slice(), outside)

@@ -19,13 +19,14 @@ Commands:
   query -d DB ID              Prints the rows of a build-id that a store holds
   trial SEED FILES WORKERS    Scans generated files in memory, and prints what it has then
   serve -d DB DIR..           Serves the files under folders to debuggers, over HTTP
+  find WORDS..                Writes what a build-id names, from a cache or from other servers
 
 Options:
   -h, --help       Print help
   -V, --version    Print version
 
-`dbgd serve --help`, `dbgd scan --help` and `dbgd query --help` have the options of these three with
-their defaults, and their exit statuses. The manual is docs/COMMANDS.md, of the server docs/SERVING.md.
+`dbgd serve --help`, `dbgd scan --help`, `dbgd query --help` and `dbgd find --help` have the options of
+these four with their defaults, and their exit statuses. The manual is docs/COMMANDS.md, of the server docs/SERVING.md.
 
 Example: dbgd serve -d index.db -p 8002 /usr/bin /usr/lib/debug
 and then: DEBUGINFOD_URLS=http://localhost:8002 gdb /usr/bin/ls
@@ -153,11 +154,48 @@ Example: dbgd serve -d index.db -p 8002 /usr/bin /usr/lib/debug
 and then: DEBUGINFOD_URLS=http://localhost:8002 gdb /usr/bin/ls
 ";
 
+/// Lines that ask for the help of `find`.
+pub static FIND_HELPS: [&[&str]; 2] = [&["find", "--help"], &["find", "-h", ""]];
+
+/// The help of `find`.
+pub static FIND_HELP: &str =
+    "Writes the bytes that a build-id names, where debuginfod-find prints the path of its copy
+
+Usage: dbgd find --cache <DIR> --upstream <URLS> <KIND> <ID> [NAME]
+
+Arguments:
+  <KIND>  What is wanted: debuginfo, executable, source or section
+  <ID>    A build-id: 4 to 128 hexadecimal digits, two for each byte
+  [NAME]  The path of a source, from / on, or the name of a section
+
+Options:
+      --cache <DIR>      The folder of files that were fetched; it is made where it isn't there
+      --upstream <URLS>  Servers to ask for what isn't in the folder, with spaces between them
+  -h, --help             Print help
+  -V, --version          Print version
+
+KIND is debuginfo, executable, source or section. The last two take a NAME: the path of a source, from /
+on, or the name of a section. A NAME that begins with - stands behind --.
+
+DIR has the files that were fetched before, each by the name of its build-id and kind. One of them counts
+only where its bytes have the build-id and the class that are asked for, and is looked at anew each time;
+a section is looked for in the debug file and then in the executable. What isn't found there is asked of
+the servers, in order, and a file that one of them sends is kept in DIR once it is written. Sections and
+sources aren't kept. No variable of the environment is read.
+
+Exit status: 0 done, 1 a call of the folder, of a server or of the output failed, 2 words that can't be
+read, 3 nobody has it, 6 memory was refused.
+
+Example: dbgd find --cache cache --upstream http://localhost:8002 debuginfo \\
+15dfff3239aa7c3b16a71e6b2e3b6e4009dab998 > ls.debug
+";
+
 /// Lines that ask for a version.
-pub static VERSIONS: [Case; 5] = [
+pub static VERSIONS: [Case; 6] = [
     Case(&["--version"], "dbgd 0.1.0\n"),
     Case(&["-V"], "dbgd 0.1.0\n"),
     Case(&["query", "--version"], "dbgd query 0.1.0\n"),
     Case(&["scan", "-V"], "dbgd scan 0.1.0\n"),
     Case(&["serve", "-V"], "dbgd serve 0.1.0\n"),
+    Case(&["find", "--version"], "dbgd find 0.1.0\n"),
 ];

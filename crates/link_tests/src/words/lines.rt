@@ -332,3 +332,274 @@ pub static SERVE_OPTIONS: [Case; 25] = [
         "usage",
     ),
 ];
+
+/// Lines of `find`, by the targets of their routes.
+pub static SEARCHES: [Case; 9] = [
+    Case(
+        &[
+            "find",
+            "--cache",
+            "c",
+            "--upstream",
+            "http://a",
+            "debuginfo",
+            "99be",
+        ],
+        "find c /buildid/99be/debuginfo>a:80",
+    ),
+    Case(
+        &[
+            "find",
+            "executable",
+            "99BE",
+            "--cache=",
+            "--upstream=http://a:8/b/ http://c",
+        ],
+        "find  /buildid/99be/executable>a:8/b>c:80",
+    ),
+    Case(
+        &[
+            "find",
+            "--cache=/x y",
+            "--upstream=http://a",
+            "source",
+            "99be",
+            "/w//./a.c",
+        ],
+        "find /x y /buildid/99be/source/w/a.c>a:80",
+    ),
+    Case(
+        &[
+            "find",
+            "--cache=c",
+            "--upstream=http://a",
+            "section",
+            "99be",
+            ".text",
+        ],
+        "find c /buildid/99be/section/.text>a:80",
+    ),
+    Case(
+        &[
+            "find",
+            "--cache=c",
+            "--upstream=http://a",
+            "section",
+            "99be",
+            "a/b",
+        ],
+        "find c /buildid/99be/section/a/b>a:80",
+    ),
+    Case(
+        &[
+            "find",
+            "--cache=c",
+            "--upstream=http://a",
+            "section",
+            "99be",
+            "é",
+        ],
+        "find c /buildid/99be/section/%C3%A9>a:80",
+    ),
+    Case(
+        &[
+            "find",
+            "--cache=c",
+            "--upstream=http://a",
+            "section",
+            "99be",
+            "--",
+            "-x",
+        ],
+        "find c /buildid/99be/section/-x>a:80",
+    ),
+    Case(
+        &[
+            "find",
+            "--cache=c",
+            "--upstream=http://a",
+            "source",
+            "99be",
+            "/",
+        ],
+        "find c /buildid/99be/source/>a:80",
+    ),
+    Case(
+        &[
+            "find",
+            "--upstream=http://a",
+            "--cache=c",
+            "--",
+            "executable",
+            "99be",
+        ],
+        "find c /buildid/99be/executable>a:80",
+    ),
+];
+
+/// Lines of `find` that can't be read.
+pub static UNSOUGHT: [Case; 22] = [
+    Case(&["find"], "usage"),
+    Case(&["find", "debuginfo", "99be"], "usage"),
+    Case(&["find", "--cache=c", "debuginfo", "99be"], "usage"),
+    Case(
+        &["find", "--upstream=http://a", "debuginfo", "99be"],
+        "usage",
+    ),
+    Case(
+        &["find", "--cache=c", "--upstream=http://a", "debuginfo"],
+        "usage",
+    ),
+    Case(&["find", "--cache=c", "--upstream=http://a"], "usage"),
+    Case(
+        &[
+            "find",
+            "--cache=c",
+            "--upstream=http://a",
+            "Debuginfo",
+            "99be",
+        ],
+        "usage",
+    ),
+    Case(
+        &["find", "--cache=c", "--upstream=http://a", "", "99be"],
+        "usage",
+    ),
+    Case(
+        &[
+            "find",
+            "--cache=c",
+            "--upstream=http://a",
+            "debuginfo",
+            "99b",
+        ],
+        "usage",
+    ),
+    Case(
+        &[
+            "find",
+            "--cache=c",
+            "--upstream=http://a",
+            "debuginfo",
+            "99",
+        ],
+        "usage",
+    ),
+    Case(
+        &[
+            "find",
+            "--cache=c",
+            "--upstream=http://a",
+            "debuginfo",
+            "99bg",
+        ],
+        "usage",
+    ),
+    Case(
+        &[
+            "find",
+            "--cache=c",
+            "--upstream=http://a",
+            "debuginfo",
+            "99be",
+            "x",
+        ],
+        "usage",
+    ),
+    Case(
+        &[
+            "find",
+            "--cache=c",
+            "--upstream=http://a",
+            "executable",
+            "99be",
+            "/x",
+        ],
+        "usage",
+    ),
+    Case(
+        &["find", "--cache=c", "--upstream=http://a", "source", "99be"],
+        "usage",
+    ),
+    Case(
+        &[
+            "find",
+            "--cache=c",
+            "--upstream=http://a",
+            "source",
+            "99be",
+            "a.c",
+        ],
+        "usage",
+    ),
+    Case(
+        &[
+            "find",
+            "--cache=c",
+            "--upstream=http://a",
+            "section",
+            "99be",
+        ],
+        "usage",
+    ),
+    Case(
+        &[
+            "find",
+            "--cache=c",
+            "--upstream=http://a",
+            "section",
+            "99be",
+            "",
+        ],
+        "usage",
+    ),
+    Case(
+        &[
+            "find",
+            "--cache=c",
+            "--upstream=http://a",
+            "section",
+            "99be",
+            ".a",
+            ".b",
+        ],
+        "usage",
+    ),
+    Case(
+        &[
+            "find",
+            "--cache=c",
+            "--upstream=https://a",
+            "debuginfo",
+            "99be",
+        ],
+        "usage",
+    ),
+    Case(
+        &["find", "--cache=c", "--upstream=", "debuginfo", "99be"],
+        "usage",
+    ),
+    Case(
+        &[
+            "find",
+            "--cache=c",
+            "--cache=d",
+            "--upstream=http://a",
+            "debuginfo",
+            "99be",
+        ],
+        "usage",
+    ),
+    Case(
+        &[
+            "find",
+            "--cache=c",
+            "--upstream=http://a",
+            "-d",
+            "m",
+            "debuginfo",
+            "99be",
+        ],
+        "usage",
+    ),
+];

@@ -5,6 +5,7 @@ use crate::runs::hands::{Files, hand_of};
 use dbgd_run::{Outside, needs, run, run_local};
 use elf_reading::ElfTruth;
 use federation::MemLink;
+use find_client::MemCache;
 use http_wire::{MemDoor, MemSink, Sink, Stream, WriteAnswer};
 use index_keeper::{Kept, MemStore};
 use row_types::OpenWorld;
@@ -65,7 +66,17 @@ impl Sink for Narrow {
 }
 
 /// The objects of a run.
-pub type Memory<W, T> = Outside<W, T, MemStore<W>, MemDoor, MemLink, MemClock, Narrow, NoGate>;
+pub type Memory<W, T> = Outside<
+    W,
+    T,
+    MemStore<W>,
+    MemDoor,
+    MemLink,
+    MemClock,
+    Narrow,
+    NoGate,
+    MemCache,
+>;
 
 /// The words as the program gets them.
 pub fn words_of(rt: &impl Abort, alloc: Global, words: &[&str]) -> Vec<String> {
@@ -103,6 +114,11 @@ pub fn one_hand<T: Drop>(rt: &impl Abort, alloc: Global, hand: T) -> Vec<T> {
     hands
 }
 
+/// A cache that holds nothing.
+pub fn no_values(alloc: Global) -> MemCache {
+    MemCache::new(alloc, Vec::new(alloc), Vec::new(alloc))
+}
+
 /// The objects around hands and a store, by a plan.
 pub fn outside_of<W: ElfTruth + Send + Sync, T: Tree<W>>(
     rt: &impl Abort,
@@ -120,6 +136,7 @@ pub fn outside_of<W: ElfTruth + Send + Sync, T: Tree<W>>(
         out: sink_of(rt, alloc, plan.bad_out, plan.width),
         err: sink_of(rt, alloc, plan.bad_err, plan.width),
         gate: NoGate,
+        cache: no_values(alloc),
         of: PhantomData::<W>,
     }
 }
@@ -141,6 +158,7 @@ pub fn status_of<W: ElfTruth + Send + Sync, T: Tree<W>, Rt: Threads + Wait + Syn
     let needs = needs(alloc, texts.as_slice()).expect(rt, "memory");
     assert!(rt; needs.hands.min(1) <= outside.hands.len() as u64, "a hand");
     assert!(rt; needs.doors == 0, "a server");
+    assert!(rt; needs.rows == 0, "rows of links");
     run(rt, alloc, texts.as_slice(), outside)
 }
 

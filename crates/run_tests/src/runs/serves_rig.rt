@@ -4,11 +4,12 @@
 ghost use Rattle.std.specs.Prelude.{◌≡◌, All, length};
 
 use crate::runs::hands::{Files, hand_of};
-use crate::runs::rig::{Narrow, Plan, Run, compare, empty_store, sink_of, words_of};
+use crate::runs::rig::{Narrow, Plan, Run, compare, empty_store, no_values, sink_of, words_of};
 use crate::runs::serves_replies::{Ask, replies};
 use dbgd_run::{Outside, needs, run};
 use elf_reading::ElfTruth;
 use federation::MemLink;
+use find_client::MemCache;
 use http_wire::{Door, MemConn, MemDoor};
 use index_keeper::MemStore;
 use row_types::OpenWorld;
@@ -20,7 +21,7 @@ use std::thread::Threads;
 use tree_trait::{Gate, MemClock, MemTree, Tree};
 
 /// The objects of a server.
-pub type Server<W, T, D, G> = Outside<W, T, MemStore<W>, D, MemLink, MemClock, Narrow, G>;
+pub type Server<W, T, D, G> = Outside<W, T, MemStore<W>, D, MemLink, MemClock, Narrow, G, MemCache>;
 
 /// A connection on which this comes.
 fn conn(rt: &impl Abort, alloc: Global, input: &str) -> MemConn {
@@ -105,12 +106,13 @@ pub fn around<W: ElfTruth + Send + Sync, T: Tree<W>, D: Door, G: Gate + Drop>(
         out: sink_of(rt, alloc, plan.bad_out, plan.width),
         err: sink_of(rt, alloc, plan.bad_err, plan.width),
         gate,
+        cache: no_values(alloc),
         of: PhantomData::<W>,
     }
 }
 
 /// Each of these rows has so many links.
-fn are_linked(rt: &impl Abort, rows: &[Vec<MemLink>], count: usize)
+pub fn are_linked(rt: &impl Abort, rows: &[Vec<MemLink>], count: usize)
     ensures { All (λ row. length row.items ≡ count) rows.now }
 {
     for row in rows {
@@ -137,7 +139,7 @@ fn status_of<
         "doors of {words:?}"
     );
     assert!(rt;
-        needs.doors <= server.links.len() as u64,
+        needs.rows <= server.links.len() as u64,
         "rows of links of {words:?}"
     );
     are_linked(rt, server.links.as_slice(), needs.upstream.len());

@@ -1,4 +1,4 @@
--- What a line of words asks was done; doors, links and clock are as they were unless it asks for a server.
+-- What a line of words asks was done; doors, links, clock and cache are as they were unless it asks for a server or a search.
 use Rattle.std.proofs.Common.{ap, arith}
 use Rattle.std.specs.Prelude.{map}
 use Rattle.dbgd_commands.specs.Stage.{rows_shown}
@@ -6,7 +6,7 @@ use Rattle.dbgd_run.proofs.RunLemmas.{runs_apart}
 use Rattle.dbgd_run.proofs.outside.run_line.Goals as goal
 
 pub returns-in-Scan-clause-law : goal.returns-in-Scan-clause-law
-returns-in-Scan-clause-law g c = rw c.in-Scan.is (rw c.as_slice.ensures.value at c.scan_selected.ensures.runs)
+returns-in-Scan-clause-law g c = rw c.in-Scan.is c.scan_selected.ensures.runs
 
 pub returns-in-Serve-clause-law : goal.returns-in-Serve-clause-law
 returns-in-Serve-clause-law g c =
@@ -22,10 +22,14 @@ returns-in-Trial-clause-law g c =
         doors = ap (λ doors. map g.X.D.Door.shows doors.items) c.run_trial.ensures.rest.0;
         links = ap (λ links. rows_shown g.X.L.Link.shows links.items) c.run_trial.ensures.rest.1;
         woke = ap g.X.C.Clock.woke c.run_trial.ensures.rest.2;
+        cache = ap g.X.H.Cache.shows c.run_trial.ensures.rest.3;
       };
     })
 
--- the last arm: any line that takes no threads
+pub returns-in-Find-clause-law : goal.returns-in-Find-clause-law
+returns-in-Find-clause-law g c = rw c.in-Find.is c.run_find.ensures.runs
+
+-- the last arm: any line that waits for nobody
 pub returns-in_default-clause-law : goal.returns-in_default-clause-law
 returns-in_default-clause-law g c =
     runs_apart _ _ _ _ _ c.run_alone.ensures.law
@@ -33,6 +37,7 @@ returns-in_default-clause-law g c =
       doors = ap (λ doors. map g.X.D.Door.shows doors.items) c.run_alone.ensures.rest.0;
       links = ap (λ links. rows_shown g.X.L.Link.shows links.items) c.run_alone.ensures.rest.1;
       woke = ap g.X.C.Clock.woke c.run_alone.ensures.rest.2;
+      cache = ap g.X.H.Cache.shows c.run_alone.ensures.rest.3;
     })
 
 -- a server's hands are enough by what it needs

@@ -14,6 +14,7 @@ returns-in-Ok-clause-run g c =
       doors = ap (λ doors. map g.D.Door.shows doors.items) c.run_alone.ensures.rest.0;
       links = ap (λ links. rows_shown g.L.Link.shows links.items) c.run_alone.ensures.rest.1;
       woke = ap g.C.Clock.woke c.run_alone.ensures.rest.2;
+      cache = ap g.H.Cache.shows c.run_alone.ensures.rest.3;
     }))))
 
 pub returns-in-Err-clause-run : goal.returns-in-Err-clause-run
@@ -22,5 +23,5 @@ returns-in-Err-clause-run g c =
     (inr (record {
       options = c.in-Err.ensures.memory;
       alone = record { says = c.say_no_memory.ensures; hands = refl; store = refl };
-      rest = record { doors = refl; links = refl; woke = refl };
+      rest = record { doors = refl; links = refl; woke = refl; cache = refl };
     }))

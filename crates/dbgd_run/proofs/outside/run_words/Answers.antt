@@ -12,7 +12,7 @@ returns-in-Ok-clause-law g c = inl (rw (← c.in-Ok.ensures.line) c.run_line.ens
 
 pub returns-in-Err-clause-law : goal.returns-in-Err-clause-law
 returns-in-Err-clause-law g c =
-    inr (record { options = c.in-Err.ensures.memory; alone = record { says = c.say_no_memory.ensures; hands = refl; store = refl }; rest = record { doors = refl; links = refl; woke = refl } })
+    inr (record { options = c.in-Err.ensures.memory; alone = record { says = c.say_no_memory.ensures; hands = refl; store = refl }; rest = record { doors = refl; links = refl; woke = refl; cache = refl } })
 
 pub run_line-requires-clause-fits : goal.run_line-requires-clause-fits
 run_line-requires-clause-fits g c = λ κs within.

@@ -9,5 +9,5 @@ returns-clause-runs g c = unselected (record {
   fault = OutOfMemory;
   why = tt;
   alone = record { says = c.say_unselected-in-Err-matching.ensures; hands = refl; store = refl };
-  rest = record { doors = refl; links = refl; woke = refl };
+  rest = record { doors = refl; links = refl; woke = refl; cache = refl };
 })

@@ -9,4 +9,4 @@ returns-in-Err-clause-runs g c = λ upstream linked.
     let same = c.in-Err.ensures.err in
     rw same
     (serve_wanting _ _ _ _ c.say_no_memory.result some refl refl (rw same at c.say_no_memory.ensures)
-    (record { doors = refl; links = refl; woke = refl }))
+    (record { doors = refl; links = refl; woke = refl; cache = refl }))

@@ -27,8 +27,13 @@ returns-clause-runs g c = λ upstream linked.
     let left = c.serve_store-back in
     let many : c.len-scanned.result ≡ length line.folders.0.items = omega (arith, c.len-scanned.ensures, line.folders.0.ok.0) in
     let chosen : hired.crew.select ≡ selection_of (pattern_texts line.patterns) = hired.ensures.select ∙ (c.in_ok-matching.ensures ∙ c.requires.select) in
+    let laid =
+    rw (c.as_slice-folders.ensures.value, c.as_str.ensures.value, many, c.in_ok-folders.ensures, front_all_of line.folders.0.items line.folders.1.items)
+    at left.ensures.serves in
+    let serves =
+    rw (chosen, hired.ensures.own, hired.ensures.book, made.ensures.rows, c.in_ok-text.ensures) at laid in
     rw (hired.ensures.hands, ← hired.ensures.doors, hired.ensures.rows, c.dismiss.ensures.hands, c.dismiss.ensures.doors, c.dismiss.ensures.rows)
-    (runs_serve _ _ _ _ _ _ others _ _ _ _ _
+    (runs_serve _ _ _ _ _ _ others _ _ _ _ _ _
     made.shares.own made.book hired.crew.workers.all.items
     (serve_stage left.result.hands.items (g.X.C.Clock.woke left.new.clock)
     (streams g.X.O.Stream.shows left.new.out left.new.err) left.result.workers.items)
@@ -40,7 +45,7 @@ returns-clause-runs g c = λ upstream linked.
     (subst (All (IsFreshShare made.book)) (sym hired.ensures.shares) made.ensures.others) made.ensures.own made.ensures.rows
     (subst (All (IsLinked upstream)) (front_all_of rows others)
     (All-take (IsLinked upstream) (length rows) _ (subst (All (IsLinked upstream)) hired.ensures.rows linked)))
-    (rw (c.as_slice-folders.ensures.value, c.as_str.ensures.value, many, c.in_ok-folders.ensures, front_all_of line.folders.0.items line.folders.1.items, chosen, hired.ensures.own, hired.ensures.book, made.ensures.rows, c.in_ok-text.ensures) at left.ensures.serves)
+    serves
     (rw c.as_slice.ensures.value at c.say_serve_end-status.ensures))
 
 pub hire-requires-clause-hands : goal.hire-requires-clause-hands
