@@ -73,15 +73,8 @@ fn serve_line<X: Kinds, Rt: Threads + Wait + Sync>(
     let folders = folders.as_slice();
     let (book, shares) = new_shares(rt, alloc, line.workers)?;
     let matching = (&*select).matching(alloc)?;
-    let (crew, rest) = hire::<X>(
-        alloc,
-        matching,
-        &book,
-        shares,
-        &mut outside.hands,
-        &mut outside.doors,
-        &mut outside.links,
-    )?;
+    let (hands, doors, links) = (&mut outside.hands, &mut outside.doors, &mut outside.links);
+    let (crew, rest) = hire::<X>(alloc, matching, &book, shares, hands, doors, links)?;
     let site = Site {
         rt,
         alloc,
