@@ -6,6 +6,7 @@ use Rattle.row_types.specs.Row.{RowFacts}
 use Rattle.row_types.specs.Stamp.{StampFacts}
 use Rattle.row_types.specs.declared.identity.Kind.{Kind}
 use Rattle.index_rows.specs.declared.change.Change.{Change}
+use Rattle.index_state.specs.Invariant.{AreRowsAt}
 use Rattle.webapi_routes.specs.declared.route.Route.{Route}
 use Rattle.webapi_routes.specs.declared.route.Route.TheVariants.{Debuginfo, Executable, Source, Section, Metrics}
 use Rattle.tree_trait.specs.Found.{Versions}
@@ -16,7 +17,7 @@ use Rattle.answer_check.specs.Checked.{CheckedFacts}
 use Rattle.answer_core.specs.Candidates.{candidates}
 use Rattle.answer_core.specs.Given.{GivesRead, file_given, given_facts}
 use Rattle.answer_core.specs.Loads.{CandidatePasses, Hand, HasCandidatePassed}
-use Rattle.answer_core.specs.Local.{AgreesWithFile, AnswersFrom, AnswersRoute, AreCandidatesAt, AreRowsAt, HandsFile, IsAnswerOf, IsGiven}
+use Rattle.answer_core.specs.Local.{AgreesWithFile, AnswersFrom, AnswersRoute, AreCandidatesAt, HandsFile, IsAnswerOf, IsGiven}
 use Rattle.answer_core.specs.Local.{LocalFacts, local_facts}
 use Rattle.answer_core.specs.Local.{file_found, section_found, source_found, nothing_found, fault_found, no_memory_found}
 use Rattle.answer_core.specs.declared.candidate.Candidate.{Candidate}

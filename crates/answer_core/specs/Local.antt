@@ -4,10 +4,8 @@ use Rattle.std.specs.Prelude.{◌≡◌, ◌⊎◌, ℕ, false, true, List, [], 
 use Rattle.file_picture.specs.Agrees.{AgreesWithPicture}
 use Rattle.row_types.specs.Name.{NameFacts}
 use Rattle.row_types.specs.Row.{RowFacts}
-use Rattle.index_rows.specs.Log.{replay}
-use Rattle.index_rows.specs.Rows.{row_names}
 use Rattle.index_rows.specs.declared.change.Change.{Change}
-use Rattle.index_state.specs.Invariant.{AreTrueRows}
+use Rattle.index_state.specs.Invariant.{AreRowsAt}
 use Rattle.tree_trait.specs.Found.{Versions}
 use Rattle.tree_trait.specs.Heard.{Heard}
 use Rattle.tree_trait.specs.Opened.{HoldsPicture}
@@ -24,11 +22,6 @@ use Rattle.answer_core.specs.declared.given.Given.TheVariants as given
 use Rattle.answer_core.specs.declared.local.Local.{Local}
 use Rattle.answer_core.specs.declared.local.Local.TheVariants as local
 use Rattle.answer_core.specs.declared.look_up.Picked.{Picked}
-
--- the rows of an index that has this log
-pub record AreRowsAt (true_row : RowFacts → Type 0) (log : List Change) (rows : List RowFacts) : Type 0 where
-  pub sound : AreTrueRows true_row rows
-  pub names : row_names rows ≡ replay log
 
 -- the candidates of a route by the rows of an index that has this log
 pub record AreCandidatesAt

@@ -1,4 +1,5 @@
 pub mod ApartLemmas
+pub mod BehindLemmas
 pub mod CountLemmas
 pub mod FindLemmas
 pub mod HasLemmas

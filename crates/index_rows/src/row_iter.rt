@@ -2,6 +2,7 @@
 
 ghost use Rattle.std.specs.Prelude.{◌≡◌, ◌∷◌, [], filter, IfSome, IfNone};
 ghost use Rattle.std.specs.Iterator.{YieldsFirstRef, item_count};
+ghost use Rattle.std.specs.Map.{values_of};
 ghost use Rattle.index_rows.specs.Classes.{is_of_kind};
 ghost use Rattle.index_rows.specs.Left.{is_wanted, left_in};
 ghost use Rattle.index_rows.specs.Shelf.{rows_under};
@@ -13,13 +14,20 @@ use crate::row_map::RowMap;
 use crate::shelf::Held;
 use crate::tally::Tallied;
 use row_types::{CanonPath, Ident, Kind, Reading, Row};
-use std::collections::btree_map::Values;
+use std::collections::btree_map::{Range, Values};
 use std::marker::Model;
 
 /// The rows under some numbers.
 #[derive(Drop)]
 pub(crate) struct UnderNumbers<'a> {
     numbers: Values<'a, CanonPath, usize>,
+    held: &'a Held,
+}
+
+/// The rows under the numbers of some paths.
+#[derive(Drop)]
+pub(crate) struct AfterPath<'a> {
+    numbers: Range<'a, CanonPath, usize>,
     held: &'a Held,
 }
 
@@ -36,6 +44,8 @@ pub(crate) struct AtPaths<'a> {
 pub(crate) enum Rest<'a> {
     /// All.
     All(UnderNumbers<'a>),
+    /// Those behind a path.
+    After(AfterPath<'a>),
     /// Those at some paths.
     Found(AtPaths<'a>),
 }
@@ -66,6 +76,15 @@ impl<'a> RowIter<'a> {
         }
     }
 
+    /// The rows under the paths' numbers.
+    pub(crate) fn after(numbers: Range<'a, CanonPath, usize>, held: &'a Held) -> RowIter<'a>
+        ensures { result ≡ rows_under held.now (values_of numbers.entry) }
+    {
+        RowIter {
+            rest: Rest::After(AfterPath { numbers, held }),
+        }
+    }
+
     /// The rows at the paths that count, of the kind if one is given.
     pub(crate) fn found(entries: &'a [Tallied], rows: &'a RowMap, kind: Option<Kind>) -> RowIter<'a>
         ensures { result ≡ filter (λ row. is_wanted kind row.reading)
@@ -91,6 +110,7 @@ impl<'a> Iterator for RowIter<'a> {
     fn next(&mut self) -> Option<&'a Row> {
         match &mut self.rest {
             Rest::All(all) => next_held(&mut all.numbers, all.held),
+            Rest::After(after) => next_after(&mut after.numbers, after.held),
             Rest::Found(found) => next_found(found),
         }
     }
@@ -104,6 +124,21 @@ fn next_held<'a>(numbers: &mut Values<'a, CanonPath, usize>, held: &'a Held) -> 
     ensures end { IfNone result (rows_under held.now numbers.new ≡ []) }
 {
     while let Some(number) = numbers.next() {
+        if let Some(Some(row)) = held.get(*number) {
+            return Some(row);
+        }
+    }
+    None
+}
+
+/// The next row under the paths' numbers.
+fn next_after<'a>(numbers: &mut Range<'a, CanonPath, usize>, held: &'a Held) -> Option<&'a Row>
+    ensures some { IfSome result (λ row. rows_under held.now (values_of numbers.old)
+        ≡ row.now ∷ rows_under held.now (values_of numbers.new)) }
+    ensures none { IfNone result (rows_under held.now (values_of numbers.old) ≡ []) }
+    ensures end { IfNone result (rows_under held.now (values_of numbers.new) ≡ []) }
+{
+    while let Some((_, number)) = numbers.next() {
         if let Some(Some(row)) = held.get(*number) {
             return Some(row);
         }

@@ -1,7 +1,8 @@
 //! The rows by path, and room for one that is to come.
 
-ghost use Rattle.std.specs.Prelude.{◌≡◌, ◌≢◌, ◌<◌, ◌+◌, ℕ, [], length, None, Some, IsSome, IfSome, OnOk};
+ghost use Rattle.std.specs.Prelude.{◌≡◌, ◌≢◌, ◌<◌, ◌+◌, ℕ, [], length, None, Some, IsSome, IfSome, OnOk, filter};
 ghost use Rattle.std.specs.Option.{option_copied, option_to_list};
+ghost use Rattle.row_types.specs.Ascends.{is_before};
 ghost use Rattle.row_types.specs.Row.{RowFacts};
 ghost use Rattle.index_rows.specs.Table.{total};
 ghost use Rattle.index_rows.specs.declared.rows.TheConstants.{LOG_LIMIT};
@@ -79,6 +80,13 @@ impl RowMap {
         ensures { result ≡ rows_in_slots self.now }
     {
         self.slots.rows()
+    }
+
+    /// The rows behind a path, in path order.
+    pub fn rows_after(&self, path: &CanonPath) -> RowIter<'_>
+        ensures { result ≡ filter (λ row. is_before path.now row.name.path) (rows_in_slots self.now) }
+    {
+        self.slots.rows_after(path)
     }
 
     /// Makes the path's slot, if there is none, and gives its number.

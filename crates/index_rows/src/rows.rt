@@ -1,9 +1,10 @@
 //! The rows of an index.
 
-ghost use Rattle.std.specs.Prelude.{◌≡◌, ◌↔◌, ◌^◌, length, filter, Err, IsSome, IsSomeAnd, IfSome};
+ghost use Rattle.std.specs.Prelude.{◌≡◌, ◌↔◌, ◌^◌, drop, length, filter, Err, IsSome, IsSomeAnd, IfSome};
 ghost use Rattle.std.specs.Prelude.{IfOk, OnOk, OnErr};
 ghost use Rattle.std.specs.List.{list_any};
 ghost use Rattle.std.specs.Option.{option_copied};
+ghost use Rattle.row_types.specs.Ascends.{is_before};
 ghost use Rattle.index_rows.specs.Classes.{has_class, has_id, lists_source};
 ghost use Rattle.index_rows.specs.Log.{replay};
 ghost use Rattle.index_rows.specs.Rows.{after_drop, after_put, after_void, CanBeVoid, IsDropOf};
@@ -114,6 +115,24 @@ impl<W: Truth> Rows<W> {
         ensures holds { IsIndex W.true_row self.now }
     {
         self.rows.rows()
+    }
+
+    /// The rows behind a path, in path order. Those in front of it aren't gone through.
+    pub fn rows_after(&self, path: &CanonPath) -> RowIter<'_>
+        ensures value { result ≡ filter (λ row. is_before path.now row.name.path) self.now.rows }
+        ensures holds { IsIndex W.true_row self.now }
+    {
+        self.rows.rows_after(path)
+    }
+
+    /// The changes of the log behind its first `heard`, oldest first.
+    pub fn changes_after(&self, heard: usize) -> &[Change]
+        ensures value { result.now ≡ drop heard self.now.log }
+        ensures holds { IsIndex W.true_row self.now }
+    {
+        let log = self.log.as_slice();
+        let from = heard.min(log.len());
+        &log[from..]
     }
 
     /// A copy of each row's name.

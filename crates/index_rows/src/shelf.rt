@@ -1,12 +1,13 @@
 //! Slots by path, each under a number too.
 
-ghost use Rattle.std.specs.Prelude.{◌≡◌, [], None, Some, IsSome, IfSome, IfNone, OnOk, OnErr};
+ghost use Rattle.std.specs.Prelude.{◌≡◌, [], None, Some, IsSome, IfSome, IfNone, OnOk, OnErr, filter};
 ghost use Rattle.std.specs.BTreeMap.{is_at, insert_entry};
 ghost use Rattle.std.specs.Cmp.Lexicographic.{slice_cmp};
 ghost use Rattle.std.specs.List.Sorted.{IsStrictlySortedBy};
 ghost use Rattle.std.specs.Map.{keys_of, remove_entry, set_value};
 ghost use Rattle.std.specs.Option.{option_copied};
 ghost use Rattle.std.specs.Ordering.{nat_cmp};
+ghost use Rattle.row_types.specs.Ascends.{is_before};
 ghost use Rattle.slab.specs.Slab.{ContainsKey, Updates, get};
 ghost use Rattle.index_rows.specs.Shelf.{IsInSlot};
 ghost use Rattle.index_rows.specs.Slots.{HasSlot, KeepsSlots, rows_in_slots, path_slot};
@@ -17,6 +18,7 @@ use slab::Slab;
 use std::alloc::{AllocError, Global};
 use std::collections::BTreeMap;
 use std::marker::Model;
+use std::ops::Bound;
 
 /// What may be rows, under numbers.
 pub(crate) type Held = Slab<Option<Row>>;
@@ -85,6 +87,14 @@ impl Shelf {
         ensures { result ≡ rows_in_slots self.now }
     {
         RowIter::all(self.numbers.values(), &self.held)
+    }
+
+    /// The rows in the slots behind a path, in path order.
+    pub fn rows_after(&self, path: &CanonPath) -> RowIter<'_>
+        ensures { result ≡ rows_in_slots (filter (λ slot. is_before path.now slot.0) self.now) }
+    {
+        let behind = (Bound::Excluded(path), Bound::Unbounded);
+        RowIter::after(self.numbers.range(behind), &self.held)
     }
 
     /// Makes the path's slot, which has none, and gives its number.

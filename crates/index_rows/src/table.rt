@@ -3,7 +3,7 @@
 ghost use Rattle.std.specs.Prelude.{◌≡◌, ◌+◌, ◌<◌, ◌≤◌, [], ℕ, List, length, filter, IsSome, IfSome, OnOk};
 ghost use Rattle.std.specs.List.{list_any};
 ghost use Rattle.std.specs.Option.{option_copied};
-ghost use Rattle.row_types.specs.Ascends.{AscendsBy};
+ghost use Rattle.row_types.specs.Ascends.{AscendsBy, is_before};
 ghost use Rattle.index_rows.specs.Classes.{has_id, lists_source};
 ghost use Rattle.index_rows.specs.Left.{is_wanted};
 ghost use Rattle.index_rows.specs.Rows.{row_at, row_path, with_row, without_row};
@@ -75,6 +75,14 @@ impl Table {
         ensures { result ≡ rows_in_slots self.now.slots }
     {
         self.rows.rows()
+    }
+
+    /// The rows behind a path.
+    pub fn rows_after(&self, path: &CanonPath) -> RowIter<'_>
+        ensures { result ≡ filter (λ row. is_before path.now row.name.path)
+            (rows_in_slots self.now.slots) }
+    {
+        self.rows.rows_after(path)
     }
 
     /// The rows with the id whose files are of the kind, if one is given.

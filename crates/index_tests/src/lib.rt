@@ -1,6 +1,6 @@
 //! The tests of the index and of what it stands on: values, the lock, the keeper, rows, their
-//! codec, the queue of a pass, and the index's state. Each module has the tests of one crate, by its
-//! public items alone.
+//! codec, the queue of a pass, the index's state, and walks over it. Each module has the tests of
+//! one crate, by its public items alone.
 #![tactic(auto)]
 
 #[cfg(test)]
@@ -17,3 +17,5 @@ mod queues;
 mod states;
 #[cfg(test)]
 mod values;
+#[cfg(test)]
+mod walks;

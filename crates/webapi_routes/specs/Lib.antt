@@ -7,5 +7,6 @@ pub mod Parts
 pub mod Path
 pub mod Printed
 pub mod Routes
+pub mod Spelled
 pub mod Targets
 pub mod Written

@@ -1,4 +1,4 @@
-//! Why a target asks for no route.
+//! Why a target asks for no route, and why a path spells no text.
 
 use std::alloc::AllocError;
 
@@ -27,4 +27,14 @@ impl From<AllocError> for RouteFault {
     fn from(_: AllocError) -> RouteFault {
         RouteFault::OutOfMemory
     }
+}
+
+/// Why a path spells no text, in the order in which it is tested.
+#[derive(Clone, Copy, Debug, PartialEq, Eq)]
+pub enum SpellFault {
+    /// A percent sign has no two hexadecimal digits behind it, or what the escapes leave isn't
+    /// UTF-8, or holds a zero.
+    BadEscape,
+    /// Memory was refused.
+    OutOfMemory,
 }

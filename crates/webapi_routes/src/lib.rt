@@ -10,8 +10,9 @@ mod section_name;
 mod target;
 mod written;
 
-pub use fault::RouteFault;
+pub use fault::{RouteFault, SpellFault};
 pub use printing::print;
 pub use reading::parse;
 pub use route::Route;
 pub use section_name::SectionName;
+pub use target::spelled;

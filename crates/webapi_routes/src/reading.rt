@@ -10,13 +10,12 @@ ghost use Rattle.webapi_routes.specs.Written.{IsWantedValid, source};
 ghost use Rattle.webapi_routes.specs.declared.fault.RouteFault.{RouteFault};
 ghost use Rattle.webapi_routes.specs.declared.route.Route.{Route};
 
-use crate::fault::RouteFault;
+use crate::fault::{RouteFault, SpellFault};
 use crate::route::Route;
 use crate::section_name::SectionName;
-use crate::target::{before_query, has_whole_escapes};
+use crate::target::{before_query, spelled};
 use crate::written::{Written, parts_of};
 use path_scope::{PathFault, canonical};
-use percent_encoding::{DecodeError, percent_decode};
 use row_types::BuildId;
 use std::alloc::{AllocError, Global};
 
@@ -35,18 +34,11 @@ pub fn parse(alloc: Global, target: &[u8]) -> Result<Route, RouteFault>
 fn parse_path(alloc: Global, path: &[u8]) -> Result<Route, RouteFault>
     ensures { UnlessMemory result (PathSays path.now result) }
 {
-    if !has_whole_escapes(path) {
-        return Err(RouteFault::BadEscape);
+    match spelled(alloc, path) {
+        Ok(text) => parse_text(alloc, text.as_str()),
+        Err(SpellFault::BadEscape) => Err(RouteFault::BadEscape),
+        Err(SpellFault::OutOfMemory) => Err(RouteFault::OutOfMemory),
     }
-    let text = match percent_decode(path).decode_utf8(alloc) {
-        Ok(text) => text,
-        Err(DecodeError::Utf8(_)) => return Err(RouteFault::BadEscape),
-        Err(DecodeError::OutOfMemory) => return Err(RouteFault::OutOfMemory),
-    };
-    if text.as_str().as_bytes().contains(&0) {
-        return Err(RouteFault::BadEscape);
-    }
-    parse_text(alloc, text.as_str())
 }
 
 /// The route that a path's text asks for.

@@ -1,18 +1,10 @@
--- The path spells the text that is read.
-use Rattle.std.proofs.Common.{◌∙◌, ap, subst, sym}
-use Rattle.std.specs.Str.{IsUtf8}
+-- What a path says is what the text says that it spells.
+use Rattle.std.proofs.Common.{◌∙◌, subst}
 use Rattle.webapi_routes.specs.Targets.{TextSays, UnlessMemory}
-use Rattle.webapi_routes.specs.Path.{SpellsText, holds_zero}
 use Rattle.webapi_routes.proofs.TargetLemmas.{path_says}
 use Rattle.webapi_routes.proofs.reading.parse_path.Goals as goal
 
-pub returns : goal.returns
-returns c =
-    let decoded = c.in-Ok.ensures.value ∙ c.percent_decode.ensures.bytes in
-    let spells : SpellsText c.args.path.now = record {
-      escapes = sym c.has_whole_escapes.ensures ∙ c.if-not-has_whole_escapes.false;
-      utf8 = subst IsUtf8 c.percent_decode.ensures.bytes c.in-Ok.ensures.ok_only_if_utf8;
-      no_zero = ap holds_zero (sym (c.as_bytes.ensures.value ∙ c.as_str.ensures.value ∙ decoded)) ∙ sym c.contains.ensures.value ∙ c.if-contains.false;
-    } in
-    path_says c.args.path.now c.parse_text.result spells
-    (subst (λ t. UnlessMemory c.parse_text.result (TextSays t c.parse_text.result)) (c.as_str-2.ensures.value ∙ decoded) c.parse_text.ensures)
+pub returns-in-Ok : goal.returns-in-Ok
+returns-in-Ok c =
+    path_says c.args.path.now c.parse_text.result c.in-Ok.ensures.spells
+    (subst (λ t. UnlessMemory c.parse_text.result (TextSays t c.parse_text.result)) (c.as_str.ensures.value ∙ c.in-Ok.ensures.value) c.parse_text.ensures)

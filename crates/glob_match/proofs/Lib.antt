@@ -1,0 +1,6 @@
+mod FrontLemmas
+mod JoinLemmas
+mod LastLemmas
+mod LawLemmas
+mod PartLemmas
+mod Steps

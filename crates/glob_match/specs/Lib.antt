@@ -1,0 +1,4 @@
+pub mod Front
+pub mod Glob
+pub mod Last
+pub mod Laws

@@ -1,0 +1,5 @@
+pub mod Found
+pub mod Holds
+pub mod Looked
+pub mod Place
+pub mod Walk
